@@ -1,0 +1,6 @@
+pub mod Sizes
+pub mod Digits
+pub mod Words
+pub mod SetOrder
+pub mod Listing
+pub mod Ordered

@@ -1,0 +1,4 @@
+pub mod Sets
+pub mod Member
+pub mod Words
+pub mod Laws

@@ -1,0 +1,9 @@
+pub mod Walks
+pub mod Rising
+pub mod Numbers
+pub mod Segments
+pub mod Written
+pub mod Law
+pub mod Verdicts
+pub mod Begins
+pub mod Fours

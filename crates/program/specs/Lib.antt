@@ -1,0 +1,11 @@
+pub mod Refusals
+pub mod Words
+pub mod Checks
+pub mod Walk
+pub mod Programs
+pub mod Reading
+pub mod Writing
+pub mod Index
+pub mod Held
+pub mod Showing
+pub mod Bytes

@@ -1,0 +1,7 @@
+//! Programs in the word format.
+pub mod bytes;
+pub mod check;
+pub mod refusal;
+pub mod shown;
+pub mod word;
+pub mod words;
