@@ -10,6 +10,7 @@ ghost use Rattle.std.specs.declared.result.Result.the-variants.{Err, Ok};
 ghost use Rattle.program.specs.Walk.{Begins, Stands, Takes, Walked, fresh};
 use crate::refusal::Refusal;
 use crate::word::Kind;
+use crate::word::MAX_ATOMS;
 use crate::word::kind_of;
 use crate::word::number_of;
 use crate::word::split;
@@ -18,8 +19,6 @@ use crate::word::split;
 pub const MAX_WORDS: usize = 16_384;
 /// The most rules that a program may have.
 pub const MAX_RULES: u32 = 1_024;
-/// The most atoms that a program may have.
-pub const MAX_ATOMS: u32 = 256;
 
 /// Where in a program the next word stands: before the header, or behind parts of a rule of these kinds.
 #[derive(Clone, Copy)]

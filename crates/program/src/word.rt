@@ -3,6 +3,9 @@ ghost use mathlib.Core.Path.{_≡_};
 ghost use Rattle.program.specs.Words.{Splits, isKind, kindOf, numberOf};
 use crate::refusal::Refusal;
 
+/// The most atoms that a program may have.
+pub const MAX_ATOMS: u32 = 256;
+
 #[derive(Clone, Copy, Debug, PartialEq, Eq)]
 pub enum Kind {
     Head,
@@ -51,7 +54,7 @@ pub fn split(word: u32) -> Result<Token, Refusal>
 {
     let kind = kind_of(word);
     let number = number_of(word);
-    if kind != Kind::End && number.0 >= 256 {
+    if kind != Kind::End && number.0 >= MAX_ATOMS {
         return Err(Refusal::NoSuchAtom);
     }
     Ok(Token { kind, number })
