@@ -14,7 +14,7 @@ use Rattle.program.specs.declared.shown.Shown.the-variants as shown
 use Rattle.program.specs.Reading.{ruleOf, meaning, segments}
 use Rattle.program.specs.Showing.{formOf, sameForm, Part, Shows}
 use Rattle.program.specs.Index.{starts, ruleWords}
-use Rattle.account.specs.Lines.{formCount, ruleLine, ruleLines, shownLine, summary, accountOf}
+use Rattle.account.specs.Lines.{formCount, ruleLine, ruleLines, shownLine, summary, summaryOf, linesOf}
 
 count-append : (g : Form) (xs ys : List (List ℕ)) → formCount g (xs ++ ys) ≡ formCount g xs + formCount g ys
 count-append g [] ys = omega arith
@@ -40,9 +40,17 @@ shown-more ws k r l h start text after t a = a ∙ ap (λ (x : List ℕ). x ++ s
     each (shown.Constraint part position) h = lines-more ws k form.Constraint (part .now) position h
     each shown.PastEnd h = absurd (omega arith)
 
--- all of it
-pub account-all : (ws : List ℕ) (atoms rules facts bodies constraints : ℕ) (start text : List ℕ) → start ≡ summary atoms rules facts bodies constraints → text ≡ start ++ ruleLines ws rules
+-- the counts of a program
+pub summary-is : (ws : List ℕ) (atoms rules facts bodies constraints : ℕ) (text : List ℕ) → text ≡ summary atoms rules facts bodies constraints
     → atoms ≡ meaning ws .atoms → rules ≡ length (meaning ws .rules) → facts ≡ formCount form.Fact (segments (drop 1 ws)) → bodies ≡ formCount form.Rule (segments (drop 1 ws)) → constraints ≡ formCount form.Constraint (segments (drop 1 ws))
-    → text ≡ accountOf ws
-account-all ws atoms rules facts bodies constraints start text s t a r f b c =
-    t ∙ ap₂ (λ (x : List ℕ) (y : ℕ). x ++ ruleLines ws y) (s ∙ ap₂ (λ (x y : ℕ). summary x y facts bodies constraints) a r ∙ ap₂ (λ (x y : ℕ). summary (meaning ws .atoms) (length (meaning ws .rules)) x y constraints) f b ∙ ap (summary (meaning ws .atoms) (length (meaning ws .rules)) (formCount form.Fact (segments (drop 1 ws))) (formCount form.Rule (segments (drop 1 ws)))) c) r
+    → text ≡ summaryOf ws
+unfolding summaryOf
+summary-is ws atoms rules facts bodies constraints text t a r f b c =
+    let ss = segments (drop 1 ws) in
+    t ∙ ap₂ (λ (x y : ℕ). summary x y facts bodies constraints) a r ∙ ap₂ (λ (x y : ℕ). summary (meaning ws .atoms) (length (meaning ws .rules)) x y constraints) f b
+    ∙ ap (summary (meaning ws .atoms) (length (meaning ws .rules)) (formCount form.Fact ss) (formCount form.Rule ss)) c
+
+-- all the lines
+pub lines-all : (ws : List ℕ) (k : ℕ) (start text : List ℕ) → k ≡ length (meaning ws .rules) → text ≡ start ++ ruleLines ws k → text ≡ start ++ linesOf ws
+unfolding linesOf
+lines-all ws k start text e t = t ∙ ap (λ (x : ℕ). start ++ ruleLines ws x) e

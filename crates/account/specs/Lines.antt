@@ -53,14 +53,20 @@ formCount f (s ∷ ss) = cond (sameForm (formOf s) f) 1 0 + formCount f ss
 -- the counts, on two lines
 abbrev pub summary : ℕ → ℕ → ℕ → ℕ → ℕ → List ℕ
 summary atoms rules facts bodies constraints =
-    decimal atoms ++ (codes " atoms\n" ++ (decimal rules ++ (codes " rules: " ++ (decimal facts ++ (codes " facts, " ++ (decimal bodies ++ (codes " with a body, " ++ (decimal constraints ++ codes " constraints\n"))))))))
+    codes "atoms " ++ (decimal atoms ++ (codes "\nrules " ++ (decimal rules ++ (codes ": facts " ++ (decimal facts ++ (codes ", with a body " ++ (decimal bodies ++ (codes ", constraints " ++ (decimal constraints ++ codes "\n")))))))))
+
+unfoldable pub summaryOf : List ℕ → List ℕ
+summaryOf ws =
+    let ss : List (List ℕ) = segments (drop 1 ws) in
+    summary (meaning ws .atoms) (length (meaning ws .rules)) (formCount Fact ss) (formCount Rule ss) (formCount Constraint ss)
 
 -- the lines of the first k rules
 abbrev pub ruleLines : List ℕ → ℕ → List ℕ
 ruleLines ws zero = []
 ruleLines ws (suc k) = ruleLines ws k ++ ruleLine k (getD (starts ws) k 0) (ruleWords ws k)
 
+unfoldable pub linesOf : List ℕ → List ℕ
+linesOf ws = ruleLines ws (length (meaning ws .rules))
+
 abbrev pub accountOf : List ℕ → List ℕ
-accountOf ws =
-    summary (meaning ws .atoms) (length (meaning ws .rules)) (formCount Fact (segments (drop 1 ws))) (formCount Rule (segments (drop 1 ws))) (formCount Constraint (segments (drop 1 ws)))
-    ++ ruleLines ws (length (meaning ws .rules))
+accountOf ws = summaryOf ws ++ linesOf ws

@@ -2,17 +2,18 @@
 ghost use Rattle.program.specs.Bytes.{RefusedBytes, bytesFault, wordsOfBytes};
 ghost use Rattle.program.specs.Checks.{Clear, Lawful};
 ghost use Rattle.program.specs.Held.{contents};
-ghost use Rattle.account.specs.Lines.{accountOf, formCount, summary};
+ghost use Rattle.account.specs.Lines.{accountOf, formCount, linesOf, summary, summaryOf};
 ghost use Rattle.program.specs.Reading.{segments};
 ghost use Rattle.program.specs.declared.shown.Form.the-variants as form;
 ghost use Rattle.std.specs.Of.String.{string-bytes};
 ghost use Rattle.std.specs.Results.{Cases};
 ghost use lib.ListN.{drop};
+ghost use mathlib.Core.List.{_++_};
 ghost use mathlib.Core.Logic.{_⊎_};
 ghost use mathlib.Core.Path.{_≡_};
 use crate::text::push_shown;
+use program::memory::RefusalFromAlloc;
 use program::refusal::Refusal;
-use program::refusal::RefusalFromAlloc;
 use program::shown::Shown;
 use program::words::WordProgram;
 use std::alloc::Global;
@@ -53,28 +54,37 @@ pub fn count_forms(program: &WordProgram) -> Counts
 pub fn account(heap: Global, program: &WordProgram) -> Result<String, Refusal>
     ensures { λ r. ⌜ Cases r (λ s. string-bytes s ≡ accountOf (contents (now (program .entry)))) (λ e. e ≡ Refusal.OutOfMemory) ⌝ }
 {
-    let rules = program.rule_count();
-    let mut text = summarize(heap, program.atom_count(), rules, count_forms(program))?;
-    for k in 0..rules {
-        push_shown(&mut text, k, program.show(k))?;
-    }
+    let mut text = summarize(heap, program)?;
+    push_lines(&mut text, program)?;
     Ok(text)
 }
 
-/// The two lines of counts.
-fn summarize(heap: Global, atoms: usize, rules: usize, counts: Counts) -> Result<String, Refusal>
+fn summarize(heap: Global, program: &WordProgram) -> Result<String, Refusal>
+    ensures { λ r. ⌜ Cases r (λ s. string-bytes s ≡ summaryOf (contents (now (program .entry)))) (λ e. e ≡ Refusal.OutOfMemory) ⌝ }
+{
+    let counts = count_forms(program);
+    let text = write_counts(heap, program.atom_count(), program.rule_count(), counts)?;
+    Ok(text)
+}
+
+fn write_counts(heap: Global, atoms: usize, rules: usize, counts: Counts) -> Result<String, Refusal>
     ensures { λ r. ⌜ Cases r (λ s. string-bytes s ≡ summary atoms rules (counts .facts) (counts .bodies) (counts .constraints)) (λ e. e ≡ Refusal.OutOfMemory) ⌝ }
 {
-    let Counts {
-        facts,
-        bodies,
-        constraints,
-    } = counts;
+    let Counts { facts, bodies, constraints } = counts;
     let text = format!(
         heap,
-        "{atoms} atoms\n{rules} rules: {facts} facts, {bodies} with a body, {constraints} constraints\n"
+        "atoms {atoms}\nrules {rules}: facts {facts}, with a body {bodies}, constraints {constraints}\n"
     )?;
     Ok(text)
+}
+
+fn push_lines(text: &mut String, program: &WordProgram) -> Result<(), Refusal>
+    ensures { λ r. ⌜ Cases r (λ _. string-bytes (now (text .exit)) ≡ string-bytes (now (text .entry)) ++ linesOf (contents (now (program .entry)))) (λ e. e ≡ Refusal.OutOfMemory) ⌝ }
+{
+    for k in 0..program.rule_count() {
+        push_shown(text, k, program.show(k))?;
+    }
+    Ok(())
 }
 
 /// The account of a file's bytes, or its refusal.
@@ -83,5 +93,6 @@ pub fn inspect(heap: Global, bytes: &[u8]) -> Result<String, Refusal>
 {
     let mut program = WordProgram::new(heap)?;
     program.open_bytes(bytes)?;
-    account(heap, &program)
+    let text = account(heap, &program)?;
+    Ok(text)
 }

@@ -7,3 +7,4 @@ pub mod Law
 pub mod Verdicts
 pub mod Begins
 pub mod Fours
+pub mod SomeKind

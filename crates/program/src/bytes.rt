@@ -7,9 +7,9 @@ ghost use Rattle.std.specs.declared.option.Option.the-variants.{Some};
 ghost use mathlib.Core.Logic.{_⊎_};
 ghost use mathlib.Core.Path.{_≡_};
 use crate::check::MAX_WORDS;
+use crate::memory::RefusalFromAlloc;
+use crate::memory::RefusalFromRefused;
 use crate::refusal::Refusal;
-use crate::refusal::RefusalFromAlloc;
-use crate::refusal::RefusalFromRefused;
 use std::alloc::Global;
 
 /// The most bytes that a file may have.

@@ -1,10 +1,6 @@
 // Why a call is refused, and its number.
 ghost use mathlib.Core.Path.{_≡_};
 ghost use Rattle.program.specs.Refusals.{codeOf};
-ghost use Rattle.program.specs.declared.refusal.Refusal.the-variants.{OutOfMemory};
-use std::alloc::AllocError;
-use std::alloc::Refused;
-use std::fmt;
 
 #[derive(Clone, Copy, Debug, PartialEq, Eq)]
 pub enum Refusal {
@@ -47,30 +43,5 @@ impl Refusal {
             Refusal::PartialWord => 31,
             Refusal::OutOfMemory => 99,
         }
-    }
-}
-
-pub impl From<AllocError> for Refusal as RefusalFromAlloc {
-    ghost converts = { λ _ r. r ≡ OutOfMemory };
-
-    fn from(_e: AllocError) -> Refusal {
-        Refusal::OutOfMemory
-    }
-}
-
-pub impl<T: Drop> From<Refused<T>> for Refusal as RefusalFromRefused {
-    ghost converts = { λ _ r. r ≡ OutOfMemory };
-
-    fn from(_e: Refused<T>) -> Refusal {
-        Refusal::OutOfMemory
-    }
-}
-
-// A `String` fails to be written to only for want of memory.
-pub impl From<fmt::Error> for Refusal as RefusalFromWrite {
-    ghost converts = { λ _ r. r ≡ OutOfMemory };
-
-    fn from(_e: fmt::Error) -> Refusal {
-        Refusal::OutOfMemory
     }
 }

@@ -27,12 +27,11 @@ pub enum Shown<'a> {
 pub fn has_kind(words: &[u32], kind: Kind) -> bool
     ensures { λ r. ⌜ r ≡ hasKind kind (now (words .entry)) ⌝ }
 {
+    let mut found = false;
     for word in words {
-        if is_kind(*word, kind) {
-            return true;
-        }
+        found |= is_kind(*word, kind);
     }
-    false
+    found
 }
 
 /// The form of a rule by its words.

@@ -105,7 +105,7 @@ fn accounts(rt: LibcRuntime) -> Result<(), Fail> {
     let text = inspect(heap, &bytes)?;
     check(
         text.as_str()
-            == "2 atoms\n1 rules: 1 facts, 0 with a body, 0 constraints\nrule 0 at 1: 0 | 1 <-\n",
+            == "atoms 2\nrules 1: facts 1, with a body 0, constraints 0\nrule 0 at 1: 0 | 1 <-\n",
     )?;
     match inspect(heap, &bytes[0..12]) {
         Ok(_) => Err(Fail::new("an unfinished rule was accepted")),

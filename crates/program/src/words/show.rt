@@ -1,6 +1,6 @@
 // What is asked of a word program.
 ghost use Rattle.program.specs.Held.{contents, programOf};
-ghost use Prim.Native.Nat.{_≤_};
+ghost use Prim.Native.Nat.{_+_, _≤_};
 ghost use Rattle.program.specs.Showing.{Shows};
 ghost use Rattle.program.specs.Index.{Spans};
 ghost use Rattle.std.specs.Options.{Cases};
@@ -31,7 +31,14 @@ impl WordProgram {
     pub fn rule_count(&self) -> usize
         ensures { λ r. ⌜ r ≡ length (programOf (now (self .entry)) .rules) ⌝ }
     {
-        self.begins.len() - 1
+        self.begin_count() - 1
+    }
+
+    /// One more than the number of rules.
+    fn begin_count(&self) -> usize
+        ensures { λ r. ⌜ r ≡ length (programOf (now (self .entry)) .rules) + 1 ⌝ }
+    {
+        self.begins.len()
     }
 
     /// Rule k, counted from 0.

@@ -3,7 +3,7 @@ use native.Mathlib.Omega.{arith}
 use lib.ListN.{length}
 use Rattle.program.specs.Held.{contents}
 use Rattle.program.proofs.Begins.{count-starts}
-use Rattle.program.proofs.words.WordProgram.rule_count.Needs as need
+use Rattle.program.proofs.words.WordProgram.begin_count.Needs as need
 
 pub returns : need.returns
 returns c =
