@@ -1,7 +1,7 @@
 -- The account, rule by rule.
-use Prim.Native.Nat.{ℕ, zero, suc, _+_, _<_, _≤_}
-use mathlib.Core.Path.{_≡_, refl, sym, ap, ap₂, subst, _∙_}
-use mathlib.Core.Bool.{Bool, true, false, cond}
+use Prim.Native.Nat.{ℕ, _+_, _<_}
+use mathlib.Core.Path.{_≡_, sym, ap, ap₂, _∙_}
+use mathlib.Core.Bool.{cond}
 use mathlib.Core.List.{List, [], _∷_, _++_, append-assoc}
 use native.Mathlib.Numerals.{add-one}
 use native.Mathlib.Omega.{arith}
@@ -13,7 +13,6 @@ use Rattle.program.specs.declared.shown.Shown.{Shown}
 use Rattle.program.specs.declared.shown.Shown.the-variants as shown
 use Rattle.program.specs.Reading.{ruleOf, meaning, segments}
 use Rattle.program.specs.Showing.{formOf, sameForm, Part, Shows}
-use Rattle.program.specs.Index.{starts, ruleWords}
 use Rattle.account.specs.Lines.{formCount, ruleLine, ruleLines, shownLine, summary, summaryOf, linesOf}
 
 count-append : (g : Form) (xs ys : List (List ℕ)) → formCount g (xs ++ ys) ≡ formCount g xs + formCount g ys

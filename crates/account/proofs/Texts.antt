@@ -1,7 +1,7 @@
 -- The text of a rule, piece by piece.
 use Prim.Native.Nat.{ℕ, _+_, _<_, _≤_}
-use mathlib.Core.Path.{_≡_, refl, sym, ap, ap₂, _∙_}
-use mathlib.Core.Bool.{Bool, true, false, cond}
+use mathlib.Core.Path.{_≡_, sym, ap, _∙_}
+use mathlib.Core.Bool.{true, false}
 use mathlib.Core.List.{List, [], _∷_, _++_, append-assoc}
 use lib.Chars.{codes}
 use lib.ListN.{length, getD, drop}
@@ -31,7 +31,7 @@ module _ (k : Kind) (ws : List ℕ) (i : ℕ) (first later before all : List ℕ
       let e : numbers k (drop i ws) ≡ [] = at-drop-all (numbers k) ws i l in
       sym (append-nil before) ∙ ap (λ (x : List ℕ). before ++ atomsText first later x) (sym e) ∙ h
 
--- pushes, one behind the other
+-- pushes, one after the other
 pub pushed-three : (t u v w a b c : List ℕ) → u ≡ t ++ a → v ≡ u ++ b → w ≡ v ++ c → w ≡ t ++ (a ++ (b ++ c))
 pushed-three t u v w a b c p q r = r ∙ ap (λ (x : List ℕ). x ++ c) (q ∙ ap (λ (x : List ℕ). x ++ b) p) ∙ simp append-assoc
 

@@ -21,7 +21,7 @@ abbrev pub numbers : Kind → List ℕ → List ℕ
 numbers k [] = []
 numbers k (w ∷ ws) = cond (isKind k w) (numberOf w ∷ numbers k ws) (numbers k ws)
 
--- atoms in decimal: the first behind one lead, the others behind another
+-- atoms in decimal: the first with one lead, the others with another
 abbrev pub atomsText : List ℕ → List ℕ → List ℕ → List ℕ
 atomsText first later [] = []
 atomsText first later (i ∷ is) = first ++ (decimal i ++ atomsText later later is)

@@ -1,8 +1,8 @@
 // The account of a word program.
+ghost use Rattle.account.specs.Lines.{accountOf, formCount, linesOf, summary, summaryOf};
 ghost use Rattle.program.specs.Bytes.{RefusedBytes, bytesFault, wordsOfBytes};
 ghost use Rattle.program.specs.Checks.{Clear, Lawful};
 ghost use Rattle.program.specs.Held.{contents};
-ghost use Rattle.account.specs.Lines.{accountOf, formCount, linesOf, summary, summaryOf};
 ghost use Rattle.program.specs.Reading.{segments};
 ghost use Rattle.program.specs.declared.shown.Form.the-variants as form;
 ghost use Rattle.std.specs.Of.String.{string-bytes};
@@ -70,7 +70,11 @@ fn summarize(heap: Global, program: &WordProgram) -> Result<String, Refusal>
 fn write_counts(heap: Global, atoms: usize, rules: usize, counts: Counts) -> Result<String, Refusal>
     ensures { λ r. ⌜ Cases r (λ s. string-bytes s ≡ summary atoms rules (counts .facts) (counts .bodies) (counts .constraints)) (λ e. e ≡ Refusal.OutOfMemory) ⌝ }
 {
-    let Counts { facts, bodies, constraints } = counts;
+    let Counts {
+        facts,
+        bodies,
+        constraints,
+    } = counts;
     let text = format!(
         heap,
         "atoms {atoms}\nrules {rules}: facts {facts}, with a body {bodies}, constraints {constraints}\n"

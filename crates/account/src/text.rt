@@ -62,7 +62,7 @@ fn choose<'a>(test: bool, yes: &'a str, no: &'a str) -> &'a str
     if test { yes } else { no }
 }
 
-/// The atoms of this kind, the first behind one lead, the others behind another.
+/// The atoms of this kind, the first with one lead, the others with another.
 fn push_atoms(
     text: &mut String,
     words: &[u32],

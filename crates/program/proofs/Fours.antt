@@ -9,7 +9,7 @@ use Rattle.std.proofs.shelf.Tests.{le-ltb, eq-eqb}
 use Rattle.program.specs.Checks.{Clear}
 use Rattle.program.specs.Bytes.{wordsOfBytes, bytesFault}
 
--- the word of the bytes at i and behind
+-- the word of the bytes at i and after
 abbrev pub wordAt : List ℕ → ℕ → ℕ
 wordAt bs i = getD bs i 0 * 2 ^ 24 + getD bs (i + 1) 0 * 2 ^ 16 + getD bs (i + 2) 0 * 2 ^ 8 + getD bs (i + 3) 0
 

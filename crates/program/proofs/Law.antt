@@ -1,5 +1,5 @@
 -- Words are lawful exactly when they are the writing of a program within the bounds, and that program is what they mean.
-use Prim.Native.Nat.{ℕ, zero, suc, _+_, _-_, _*_, _^_, _<_, _≤_}
+use Prim.Native.Nat.{ℕ, suc, _+_, _-_, _^_, _<_, _≤_}
 use mathlib.Core.Path.{_≡_, refl, sym, ap, ap₂, subst, _∙_, fun-ext}
 use mathlib.Core.Bool.{Bool, true, false, cond, _||_}
 use mathlib.Core.List.{List, [], _∷_, _++_, map, append-assoc}
@@ -8,25 +8,25 @@ use native.Mathlib.Nat.{zero-add}
 use native.Mathlib.Numerals.{add-one}
 use native.Mathlib.Omega.{arith}
 use lib.Dec.{ltb, eqb}
-use lib.ListN.{length, getD, take, drop}
+use lib.ListN.{length, getD, take}
 use Rattle.std.specs.Joined.{joined}
 use Rattle.std.specs.shelf.Lists.{All}
-use Rattle.std.proofs.shelf.Elements.{all-append, all-getD, all-from-getD, all-weaker, all-map}
-use Rattle.std.proofs.shelf.Lists.{length-map, length-append, getD-past}
+use Rattle.std.proofs.shelf.Elements.{all-append, all-getD, all-from-getD, all-weaker}
+use Rattle.std.proofs.shelf.Lists.{length-map, getD-past}
 use Rattle.std.proofs.shelf.Ways.{tells}
-use Rattle.std.proofs.shelf.Tests.{both-ways, cases-bool, cases-lt, le-ltb, ltb-false, cond-false}
+use Rattle.std.proofs.shelf.Tests.{both-ways, cases-lt, le-ltb, ltb-false}
 use Rattle.std.specs.declared.option.Option.the-variants.{Some, None}
 use Rattle.atoms.specs.Sets.{Atoms, Within}
 use Rattle.program.specs.declared.word.Kind.{Kind}
 use Rattle.program.specs.declared.word.Kind.the-variants.{Head, Need, Bar, End}
 use Rattle.program.specs.declared.refusal.Refusal.{Refusal}
-use Rattle.program.specs.Words.{kindOf, numberOf, rank, isKind, isEnd}
-use Rattle.program.specs.Checks.{ends, fault, faultAfter, headerFault, frontFault, finished, Lawful}
+use Rattle.program.specs.Words.{kindOf, numberOf, rank, isEnd}
+use Rattle.program.specs.Checks.{ends, fault, faultAfter, frontFault, Lawful}
 use Rattle.program.specs.Programs.{Rule, Over, Program}
 use Rattle.program.specs.Reading.{holds, ruleOf, segments, meaning}
 use Rattle.program.specs.Writing.{wordOf, wordsOf, writeRule, written, InBounds}
 use Rattle.program.proofs.Rising.{In, Up, in-all, all-in, in-left, in-right, in-cases, up-append, same-up}
-use Rattle.program.proofs.Numbers.{clear-none, none-clear, rank-of, atom-below, same-rank, kind-of-word, number-of-word, word-below, word-of-parts, is-kind-word, lt-follows, end-follows, atom-faultless, end-faultless, endWord}
+use Rattle.program.proofs.Numbers.{clear-none, none-clear, atom-below, same-rank, number-of-word, word-below, word-of-parts, is-kind-word, lt-follows, end-follows, atom-faultless, end-faultless, endWord}
 use Rattle.program.proofs.Segments.{Clean, clean-from, clean-to, closed, closed-last, clean-ends, count-segments, AtomWord, Rest, Shape, shapes, join-segments, fronts, segments-cons}
 use Rattle.program.proofs.Written.{from-words, to-words, words-up, from-holds, to-holds, holds-append, holds-words, holds-other}
 
@@ -167,7 +167,7 @@ module _ (n : ℕ) (small : n ≤ 256) where
           same : parts n (ruleOf s) ≡ t
           same = same-up (parts n (ruleOf s)) t (parts-up (ruleOf s)) up to from
 
-  -- The words of rules behind an end word are faultless.
+  -- The words of rules after an end word are faultless.
   clean-parts : (t rest : List ℕ) (p e : ℕ) → All (AtomWord n) t → Up t → (isEnd p ≡ true) ⊎ All (λ x. p < x) t → e < 1024 → Clean n endWord (e + 1) rest → Clean n p e (t ++ endWord ∷ rest)
   clean-parts [] rest p e a u after l c = (end-faultless n p e endWord refl refl l, c)
   clean-parts (w ∷ t) rest p e (aw, a) (lt, u) after l c = (
@@ -258,13 +258,13 @@ write-meaning (h ∷ b) law = (
 
     shape : (ss : List (List ℕ)) → Shape (numberOf h) h ss → All (Rest (numberOf h) endWord) ss
     shape [] s = tt
-    shape (s ∷ ss) (r, rs) = (behind-end s r, rs)
+    shape (s ∷ ss) (r, rs) = (after-end s r, rs)
       where
-        -- behind any end word a rule begins alike
-        behind-end : (s : List ℕ) → Rest (numberOf h) h s → Rest (numberOf h) endWord s
-        behind-end [] r = r
-        behind-end (w ∷ s) (inl e) = inl e
-        behind-end (w ∷ s) (inr (a, after, r)) = inr (a, inl refl, r)
+        -- after any end word a rule begins alike
+        after-end : (s : List ℕ) → Rest (numberOf h) h s → Rest (numberOf h) endWord s
+        after-end [] r = r
+        after-end (w ∷ s) (inl e) = inl e
+        after-end (w ∷ s) (inr (a, after, r)) = inr (a, inl refl, r)
 
     rests : All (Rest (numberOf h) endWord) (segments b)
     rests = shape (segments b) (shapes (numberOf h) h 0 b clean cl (all-from-getD (λ w. w < 2 ^ 32) b 0 (λ i l. small (suc i))))

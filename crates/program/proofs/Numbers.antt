@@ -1,12 +1,12 @@
 -- The kind and the number of a word.
-use Prim.Native.Nat.{ℕ, zero, suc, _+_, _*_, _/_, _%_, _^_, _<_, _≤_}
-use mathlib.Core.Path.{_≡_, refl, sym, ap, ap₂, subst, _∙_}
-use mathlib.Core.Bool.{Bool, true, false, cond, _&&_, _||_}
-use mathlib.Core.Logic.{_⊎_, inl, inr, ⊎-elim}
+use Prim.Native.Nat.{ℕ, zero, suc, _/_, _^_, _<_, _≤_}
+use mathlib.Core.Path.{_≡_, refl, sym, ap, _∙_}
+use mathlib.Core.Bool.{Bool, true, false, cond, _||_}
+use mathlib.Core.Logic.{_⊎_, ⊎-elim}
 use native.Mathlib.Omega.{arith}
 use lib.Dec.{eqb, ltb, leb}
 use Rattle.std.proofs.shelf.Ways.{tells}
-use Rattle.std.proofs.shelf.Tests.{eqb-true, eqb-false, eq-eqb, ne-eqb, cases-lt, cases-bool, both-ways}
+use Rattle.std.proofs.shelf.Tests.{eqb-true, eqb-false, cases-lt, both-ways}
 use Rattle.std.specs.Options.{isSome}
 use Rattle.std.specs.declared.option.Option.{Option}
 use Rattle.std.specs.declared.option.Option.the-variants.{Some, None}
@@ -14,7 +14,7 @@ use Rattle.program.specs.declared.word.Kind.{Kind}
 use Rattle.program.specs.declared.word.Kind.the-variants.{Head, Need, Bar, End}
 use Rattle.program.specs.declared.refusal.Refusal.{Refusal}
 use Rattle.program.specs.Words.{kindNumbered, kindOf, numberOf, rank, isKind, isEnd}
-use Rattle.program.specs.Checks.{Clear, follows, fault, atomFault, endFault}
+use Rattle.program.specs.Checks.{Clear, follows, fault}
 use Rattle.program.specs.Writing.{wordOf}
 
 pub clear-none : (o : Option Refusal) → Clear o → o ≡ None

@@ -1,25 +1,24 @@
 -- Faultless words fall into parts, one for each rule, that rise and end in the end word.
-use Prim.Native.Nat.{ℕ, zero, suc, _+_, _-_, _^_, _<_, _≤_}
+use Prim.Native.Nat.{ℕ, zero, suc, _+_, _^_, _<_, _≤_}
 use mathlib.Core.Path.{_≡_, refl, sym, ap, ap₂, subst, _∙_}
 use mathlib.Core.Bool.{Bool, true, false, cond}
-use mathlib.Core.List.{List, [], _∷_, _++_, map}
+use mathlib.Core.List.{List, [], _∷_, _++_}
 use mathlib.Core.Logic.{_⊎_, inl, inr, ⊎-elim}
 use native.Mathlib.Nat.{add-zero, add-assoc}
-use native.Mathlib.Numerals.{add-one}
 use native.Mathlib.Omega.{arith}
-use lib.ListN.{length, getD, take, drop}
+use lib.ListN.{length, getD, take}
 use Rattle.std.specs.Joined.{joined}
 use Rattle.std.specs.shelf.Lists.{All}
 use Rattle.std.proofs.shelf.Elements.{all-weaker}
-use Rattle.std.proofs.shelf.Tests.{cases-bool, both-ways}
-use Rattle.std.specs.declared.option.Option.the-variants.{Some, None}
+use Rattle.std.proofs.shelf.Tests.{both-ways}
+use Rattle.std.specs.declared.option.Option.the-variants.{None}
 use Rattle.program.specs.Words.{numberOf, isEnd}
-use Rattle.program.specs.Checks.{ends, follows, fault, faultAfter, finished, Lawful}
+use Rattle.program.specs.Checks.{ends, fault}
 use Rattle.program.specs.Reading.{onto, segments}
-use Rattle.program.proofs.Rising.{In, Up, in-all}
-use Rattle.program.proofs.Numbers.{atom-below, end-above, follows-lt, fault-atom, fault-end, endWord, end-is}
+use Rattle.program.proofs.Rising.{Up}
+use Rattle.program.proofs.Numbers.{follows-lt, fault-atom, fault-end, endWord, end-is}
 
--- no word has a fault, behind the word p and e end words
+-- no word has a fault, after the word p and e end words
 abbrev pub Clean : ℕ → ℕ → ℕ → List ℕ → Type 0
 Clean n p e [] = Unit {0}
 Clean n p e (w ∷ ws) = (fault n p e w ≡ None) × Clean n w (e + cond (isEnd w) 1 0) ws
@@ -67,7 +66,7 @@ count-segments (w ∷ b) p c = go (isEnd w) refl (segments b) (count-segments b 
 abbrev pub AtomWord : ℕ → ℕ → Type 0
 AtomWord n w = (isEnd w ≡ false) × (numberOf w < n)
 
--- the rest of a rule behind the word p
+-- the rest of a rule after the word p
 abbrev pub Rest : ℕ → ℕ → List ℕ → Type 0
 Rest n p [] = ⊥
 Rest n p (w ∷ ws) = ((w ≡ endWord) × (ws ≡ [])) ⊎ (AtomWord n w × ((isEnd p ≡ true) ⊎ (p < w)) × Rest n w ws)
@@ -93,7 +92,7 @@ shapes n p e (w ∷ b) (f, c) cl (lw, small) = go (isEnd w) refl (segments b) (s
     go false t [] h = absurd (both-ways (isEnd w) t h)
     go false t (s ∷ ss) (r, h) = rw t (inr ((t, fault-atom n p e w t f .0), after (isEnd p) refl t, r), h)
 
--- an unfinished part has an end behind it
+-- an unfinished part has an end after it
 some-segment : (b : List ℕ) (p : ℕ) → isEnd p ≡ false → closed p b ≡ true → segments b ≡ [] → ⊥
 some-segment [] p t c e = both-ways (isEnd p) t c
 some-segment (w ∷ b) p t c e = pick (isEnd w) refl (segments b) refl e (λ u. some-segment b w u c)
@@ -129,7 +128,7 @@ fronts n p (w ∷ s) (inr (a, after, r)) = go (fronts n w s r)
       ⊎-elim inl (λ (l : p < w). inr (l, all-weaker (λ x. w < x) (λ x. p < x) (λ x m. omega arith) t lt)) after,
     )
 
--- and back: a rule's words behind an end word are faultless
+-- the parts of written rules
 pub segments-cons : (n : ℕ) (t rest : List ℕ) → All (AtomWord n) t → isEnd endWord ≡ true → segments (t ++ endWord ∷ rest) ≡ (t ++ endWord ∷ []) ∷ segments rest
 segments-cons n [] rest a e = refl
 segments-cons n (w ∷ t) rest ((ew, lw), a) e = rw (ew, segments-cons n t rest a e)

@@ -1,24 +1,20 @@
 -- One verdict for each list of words.
-use Prim.Native.Nat.{ℕ, _+_, _-_, _<_, _≤_}
+use Prim.Native.Nat.{ℕ, _<_}
 use mathlib.Core.Path.{_≡_, sym, ap, subst, _∙_}
-use mathlib.Core.Bool.{true, false}
-use mathlib.Core.List.{List, [], _∷_}
-use mathlib.Core.Logic.{_⊎_, inl, inr, ⊎-elim}
+use mathlib.Core.List.{List}
+use mathlib.Core.Logic.{_⊎_, inl, inr}
 use native.Mathlib.Omega.{arith}
-use lib.ListN.{length}
 use Rattle.std.proofs.shelf.Tests.{cases-order, both-ways}
 use Rattle.std.specs.Results.{Cases}
 use Rattle.std.specs.Options.{isSome}
 use Rattle.std.specs.declared.option.Option.{Option}
-use Rattle.std.specs.declared.option.Option.the-variants.{Some, None}
+use Rattle.std.specs.declared.option.Option.the-variants.{Some}
 use Rattle.std.specs.declared.result.Result.{Result}
 use Rattle.std.specs.declared.result.Result.the-variants.{Ok, Err}
 use Rattle.program.specs.declared.refusal.Refusal.{Refusal}
-use Rattle.program.specs.declared.refusal.Refusal.the-variants.{Unfinished}
-use Rattle.program.specs.Checks.{Clear, faultAfter, frontFault, finished, ClearUpTo, Lawful, Refused}
-use Rattle.program.specs.Programs.{Program}
+use Rattle.program.specs.Checks.{Clear, faultAfter, frontFault, finished, Lawful, Refused}
 use Rattle.program.specs.Reading.{meaning}
-use Rattle.program.specs.Writing.{written, InBounds, Reads}
+use Rattle.program.specs.Writing.{Reads}
 use Rattle.program.proofs.Law.{write-meaning, meaning-written, lawful-written}
 
 not-clear : (o : Option Refusal) (r : Refusal) → o ≡ Some r → Clear o → ⊥

@@ -1,25 +1,23 @@
 -- The walk of the check, word by word.
-use Prim.Native.Nat.{ℕ, zero, suc, _+_, _-_, _^_, _<_, _≤_}
-use mathlib.Core.Path.{_≡_, refl, sym, ap, ap₂, subst, _∙_}
+use Prim.Native.Nat.{ℕ, zero, suc, _+_, _^_, _<_, _≤_}
+use mathlib.Core.Path.{_≡_, refl, sym, ap, subst, _∙_}
 use mathlib.Core.Bool.{Bool, true, false, cond}
 use mathlib.Core.List.{List, [], _∷_, _++_}
 use mathlib.Core.Logic.{_⊎_, inl, inr, ⊎-elim}
-use native.Mathlib.Nat.{add-zero, add-assoc}
 use native.Mathlib.Numerals.{add-one}
 use native.Mathlib.Omega.{arith}
-use lib.Dec.{ltb}
 use lib.ListN.{length, getD, take, drop}
-use Rattle.std.proofs.shelf.Lists.{take-more, getD-drop, length-drop, take-all, getD-past}
-use Rattle.std.proofs.shelf.Tests.{cases-eq, cases-lt, cases-bool, le-ltb, lt-ltb}
+use Rattle.std.proofs.shelf.Lists.{take-more, getD-drop, length-drop, getD-past}
+use Rattle.std.proofs.shelf.Tests.{cases-eq, cases-lt, le-ltb}
 use Rattle.std.specs.declared.option.Option.the-variants.{Some, None}
 use Rattle.std.specs.declared.result.Result.{Result}
 use Rattle.std.specs.declared.result.Result.the-variants.{Ok, Err}
 use Rattle.std.specs.Results.{Cases}
 use Rattle.program.specs.declared.refusal.Refusal.{Refusal}
-use Rattle.program.specs.declared.refusal.Refusal.the-variants.{BadHeader, Unfinished, TooLong}
+use Rattle.program.specs.declared.refusal.Refusal.the-variants.{BadHeader, Unfinished}
 use Rattle.program.specs.declared.check.Checker.{Checker}
-use Rattle.program.specs.Words.{kindOf, numberOf, isEnd}
-use Rattle.program.specs.Checks.{Clear, ends, fault, faultAfter, headerFault, frontFault, finished, ClearUpTo, Lawful, Refused}
+use Rattle.program.specs.Words.{numberOf, isEnd}
+use Rattle.program.specs.Checks.{Clear, ends, fault, faultAfter, headerFault, frontFault, finished, Lawful, Refused}
 use Rattle.program.proofs.Numbers.{none-clear}
 use Rattle.program.specs.Walk.{fresh, Stands, Takes, Begins, Walked}
 

@@ -1,22 +1,19 @@
 -- The words of a set of atoms, and what such words hold.
-use Prim.Native.Nat.{ℕ, zero, suc, _+_, _*_, _^_, _<_, _≤_}
-use mathlib.Core.Path.{_≡_, refl, sym, ap, ap₂, subst, _∙_}
+use Prim.Native.Nat.{ℕ, zero, suc, _+_, _<_, _≤_}
+use mathlib.Core.Path.{_≡_, refl, sym, ap, subst, _∙_}
 use mathlib.Core.Bool.{Bool, true, false, cond, _&&_, _||_}
 use mathlib.Core.List.{List, [], _∷_, _++_}
 use mathlib.Core.Logic.{_⊎_, inl, inr, ⊎-elim}
 use native.Mathlib.Omega.{arith}
-use lib.Dec.{eqb, ltb}
-use Rattle.std.specs.shelf.Lists.{All}
+use lib.Dec.{eqb}
 use Rattle.std.proofs.shelf.Tests.{cases-bool, cases-eq, eqb-true, eq-eqb, and-parts, and-from, or-cases, or-left, or-right, both-ways}
-use Rattle.std.proofs.shelf.Ways.{tells}
 use Rattle.atoms.specs.Sets.{Atoms, Within}
 use Rattle.program.specs.declared.word.Kind.{Kind}
-use Rattle.program.specs.declared.word.Kind.the-variants.{Head, Need, Bar, End}
-use Rattle.program.specs.Words.{kindOf, numberOf, rank, isKind, isEnd}
+use Rattle.program.specs.Words.{kindOf, numberOf, rank, isKind}
 use Rattle.program.specs.Reading.{holds}
 use Rattle.program.specs.Writing.{wordOf, wordsOf}
-use Rattle.program.proofs.Rising.{In, Up, in-all, all-in, in-left, in-right, in-cases, up-append}
-use Rattle.program.proofs.Numbers.{kind-of-word, number-of-word, is-kind-word}
+use Rattle.program.proofs.Rising.{In, Up, in-left, in-right, in-cases, up-append}
+use Rattle.program.proofs.Numbers.{kind-of-word, number-of-word}
 
 -- the members of the words of a set
 pub from-words : (k : Kind) (X : Atoms) (n x : ℕ) → In x (wordsOf k X n) → (i : ℕ) × (i < n) × (X i ≡ true) × (x ≡ wordOf k i)

@@ -15,7 +15,6 @@ use Rattle.program.specs.declared.refusal.Refusal.the-variants.{TooLong, Parti
 use Rattle.program.specs.declared.words.WordProgram.{WordProgram}
 use Rattle.program.specs.Checks.{Clear, Refused}
 use Rattle.program.specs.Held.{Opens}
-use Rattle.program.specs.Writing.{Reads}
 
 abbrev pub wordsOfBytes : List ℕ → List ℕ
 wordsOfBytes [] = []

@@ -7,14 +7,14 @@ use lib.ListN.{length, getD, take, drop}
 use Rattle.program.specs.Words.{isEnd}
 use Rattle.program.specs.Reading.{segments, meaning}
 
--- the positions just behind the end words, where the first word stands at position i
-abbrev pub behindEnds : ℕ → List ℕ → List ℕ
-behindEnds i [] = []
-behindEnds i (w ∷ ws) = cond (isEnd w) ((i + 1) ∷ behindEnds (i + 1) ws) (behindEnds (i + 1) ws)
+-- the positions just after the end words, where the first word stands at position i
+abbrev pub pastEnds : ℕ → List ℕ → List ℕ
+pastEnds i [] = []
+pastEnds i (w ∷ ws) = cond (isEnd w) ((i + 1) ∷ pastEnds (i + 1) ws) (pastEnds (i + 1) ws)
 
--- rule k begins just behind end word k, the header being end word 0; the last entry is the length
+-- rule k begins just after end word k, the header being end word 0; the last entry is the length
 abbrev pub starts : List ℕ → List ℕ
-starts ws = behindEnds 0 ws
+starts ws = pastEnds 0 ws
 
 -- the words of rule k, its end word included
 abbrev pub ruleWords : List ℕ → ℕ → List ℕ

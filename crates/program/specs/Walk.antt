@@ -1,6 +1,6 @@
--- What the check knows of the words that it has passed.
-use Prim.Native.Nat.{ℕ, zero, suc, _+_, _^_, _<_}
-use mathlib.Core.Bool.{true, cond}
+-- What the check knows of the words that it has passed. Only the contracts of its private steps cite this file.
+use Prim.Native.Nat.{ℕ, zero, suc, _+_, _<_}
+use mathlib.Core.Bool.{cond}
 use mathlib.Core.List.{List}
 use mathlib.Core.Path.{_≡_}
 use lib.ListN.{getD, take, drop}
@@ -16,14 +16,14 @@ use Rattle.program.specs.declared.check.Checker.{Checker}
 use Rattle.program.specs.Words.{kindOf, numberOf, isEnd}
 use Rattle.program.specs.Checks.{ends, fault, faultAfter, headerFault}
 
--- the phase behind a word of this kind
+-- the phase after a word of this kind
 abbrev pub phaseAfter : Kind → Phase
 phaseAfter Head = Heads
 phaseAfter Need = Needs
 phaseAfter Bar = Bars
 phaseAfter End = Heads
 
--- the least number that the same kind may have behind the word p
+-- the least number that the same kind may have after the word p
 abbrev pub floorAfter : ℕ → ℕ
 floorAfter p = cond (isEnd p) 0 (numberOf p + 1)
 
@@ -35,7 +35,7 @@ fresh = record { phase = Header; atoms = 0; floor = 0; rules = 0 }
 abbrev pub Stands : ℕ → ℕ → ℕ → Checker → Type 0
 Stands n p e c = (c .phase ≡ phaseAfter (kindOf p)) × (c .floor ≡ floorAfter p) × (c .atoms ≡ n) × (c .rules ≡ e)
 
--- what taking the word w does behind the header, and what it does to the header
+-- what taking the word w does after the header, and what it does to the header
 abbrev pub Takes : ℕ → ℕ → ℕ → ℕ → Result (Unit {0}) Refusal → Checker → Type 0
 Takes n p e w (Ok _) c = (fault n p e w ≡ None) × Stands n w (e + cond (isEnd w) 1 0) c
 Takes n p e w (Err r) c = fault n p e w ≡ Some r
@@ -44,7 +44,7 @@ abbrev pub Begins : ℕ → Result (Unit {0}) Refusal → Checker → Type 0
 Begins w (Ok _) c = (headerFault w ≡ None) × Stands (numberOf w) w 0 c
 Begins w (Err r) c = headerFault w ≡ Some r
 
--- the first i words have no fault, and the check stands behind them
+-- the first i words have no fault, and the check stands after them
 abbrev pub Walked : List ℕ → ℕ → Checker → Type 0
 Walked ws zero c = c ≡ fresh
 Walked ws (suc i) c =

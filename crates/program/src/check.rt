@@ -1,13 +1,13 @@
 // The check of a list of words, in one walk.
-ghost use mathlib.Core.Path.{_≡_};
 ghost use Prim.Native.Nat.{ℕ};
-ghost use Rattle.std.specs.Results.{Cases};
 ghost use Rattle.program.specs.Checks.{Lawful, Refused};
+ghost use Rattle.program.specs.Walk.{Begins, Stands, Takes, fresh};
 ghost use Rattle.program.specs.Words.{isEnd};
 ghost use Rattle.program.specs.Writing.{Reads};
-ghost use mathlib.Core.Bool.{cond, false, true};
+ghost use Rattle.std.specs.Results.{Cases};
 ghost use Rattle.std.specs.declared.result.Result.the-variants.{Err, Ok};
-ghost use Rattle.program.specs.Walk.{Begins, Stands, Takes, Walked, fresh};
+ghost use mathlib.Core.Bool.{cond, false, true};
+ghost use mathlib.Core.Path.{_≡_};
 use crate::refusal::Refusal;
 use crate::word::Kind;
 use crate::word::MAX_ATOMS;
@@ -20,7 +20,7 @@ pub const MAX_WORDS: usize = 16_384;
 /// The most rules that a program may have.
 pub const MAX_RULES: u32 = 1_024;
 
-/// Where in a program the next word stands: before the header, or behind parts of a rule of these kinds.
+/// Where in a program the next word stands: before the header, or after parts of a rule of these kinds.
 #[derive(Clone, Copy)]
 enum Phase {
     Header,
@@ -29,7 +29,7 @@ enum Phase {
     Bars,
 }
 
-/// What the walk keeps of the words behind it.
+/// What the walk keeps of the words that it has passed.
 #[derive(Clone, Copy)]
 struct Checker {
     phase: Phase,

@@ -1,6 +1,6 @@
 // Why a call is refused, and its number.
-ghost use mathlib.Core.Path.{_≡_};
 ghost use Rattle.program.specs.Refusals.{codeOf};
+ghost use mathlib.Core.Path.{_≡_};
 
 #[derive(Clone, Copy, Debug, PartialEq, Eq)]
 pub enum Refusal {

@@ -1,6 +1,6 @@
 // One word: its top two bits are its kind, the other 30 its number.
-ghost use mathlib.Core.Path.{_≡_};
 ghost use Rattle.program.specs.Words.{Splits, isKind, kindOf, numberOf};
+ghost use mathlib.Core.Path.{_≡_};
 use crate::refusal::Refusal;
 
 /// The most atoms that a program may have.

@@ -52,7 +52,7 @@ impl WordProgram {
     }
 }
 
-/// The positions just behind the end words.
+/// The positions just after the end words.
 fn index(heap: Global, words: &[u32]) -> Result<Vec<usize>, Refusal>
     ensures { λ r. ⌜ Cases r (λ v. vec-items v ≡ starts (now (words .entry))) (λ e. e ≡ Refusal.OutOfMemory) ⌝ }
 {

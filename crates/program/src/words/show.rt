@@ -1,8 +1,8 @@
 // What is asked of a word program.
-ghost use Rattle.program.specs.Held.{contents, programOf};
 ghost use Prim.Native.Nat.{_+_, _≤_};
-ghost use Rattle.program.specs.Showing.{Shows};
+ghost use Rattle.program.specs.Held.{contents, programOf};
 ghost use Rattle.program.specs.Index.{Spans};
+ghost use Rattle.program.specs.Showing.{Shows};
 ghost use Rattle.std.specs.Options.{Cases};
 ghost use lib.ListN.{length};
 ghost use mathlib.Core.Path.{_≡_};
@@ -12,7 +12,7 @@ use crate::shown::Shown;
 use crate::shown::form_of;
 use crate::word::number_of;
 
-/// From a rule's first word to just behind its end word.
+/// From a rule's first word to just after its end word.
 #[derive(Clone, Copy)]
 struct Span {
     from: usize,

@@ -1,13 +1,7 @@
-use mathlib.Core.Path.{_≡_, _∙_}
-use mathlib.Core.Bool.{true, false}
-use Prim.Native.Nat.{_/_, _%_, _≤_}
+use mathlib.Core.Path.{_∙_}
 use native.Mathlib.Omega.{arith}
-use lib.Dec.{ltb, eqb}
-use lib.ListN.{length}
-use borrow.Author.Needs.{needs}
 use Rattle.std.specs.Of.Vec.{vec-items}
 use Rattle.std.proofs.shelf.Lists.{take-all}
-use Rattle.std.proofs.shelf.Tests.{le-ltb, eq-eqb}
 use Rattle.program.specs.Bytes.{wordsOfBytes}
 use Rattle.program.proofs.Fours.{length-words, words-more, whole-words}
 use Rattle.program.proofs.bytes.words_from_bytes.Needs as need

@@ -1,6 +1,5 @@
-use Prim.Native.Nat.{_<_, _≤_, _%_}
 use mathlib.Core.Path.{_≡_}
-use lib.ListN.{length, take}
+use lib.ListN.{take}
 use Rattle.std.specs.Of.Vec.{vec-items}
 use Rattle.program.specs.Bytes.{wordsOfBytes}
 use Rattle.program.proofs.bytes.words_from_bytes.Given as given

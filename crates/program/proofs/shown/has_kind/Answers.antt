@@ -1,4 +1,4 @@
-use mathlib.Core.Path.{_≡_, ap, _∙_}
+use mathlib.Core.Path.{ap, _∙_}
 use mathlib.Core.Bool.{Bool, _||_}
 use Rattle.std.proofs.shelf.Lists.{take-all}
 use Rattle.program.specs.Showing.{hasKind}
