@@ -3,6 +3,7 @@ pub mod Rising
 pub mod Numbers
 pub mod Segments
 pub mod Written
+pub mod RuleWords
 pub mod Law
 pub mod Verdicts
 pub mod Begins

@@ -53,7 +53,7 @@ kind-rank Need = refl
 kind-rank Bar = refl
 kind-rank End = refl
 
-rank-lt : (k : Kind) → rank k < 4
+pub rank-lt : (k : Kind) → rank k < 4
 rank-lt Head = omega arith
 rank-lt Need = omega arith
 rank-lt Bar = omega arith

@@ -1,19 +1,18 @@
 -- The words of a set of atoms, and what such words hold.
-use Prim.Native.Nat.{ℕ, zero, suc, _+_, _<_, _≤_}
+use Prim.Native.Nat.{ℕ, zero, suc, _+_, _<_}
 use mathlib.Core.Path.{_≡_, refl, sym, ap, subst, _∙_}
-use mathlib.Core.Bool.{Bool, true, false, cond, _&&_, _||_}
+use mathlib.Core.Bool.{Bool, true, false, cond, _&&_}
 use mathlib.Core.List.{List, [], _∷_, _++_}
 use mathlib.Core.Logic.{_⊎_, inl, inr, ⊎-elim}
 use native.Mathlib.Omega.{arith}
 use lib.Dec.{eqb}
-use Rattle.std.proofs.shelf.Tests.{cases-bool, cases-eq, eqb-true, eq-eqb, and-parts, and-from, or-cases, or-left, or-right, both-ways}
-use Rattle.atoms.specs.Sets.{Atoms, Within}
+use Rattle.std.proofs.shelf.Tests.{cases-eq, eqb-true, eq-eqb, and-parts, and-from, or-cases, or-left, or-right, both-ways}
+use Rattle.atoms.specs.Sets.{Atoms}
 use Rattle.program.specs.declared.word.Kind.{Kind}
 use Rattle.program.specs.Words.{kindOf, numberOf, rank, isKind}
 use Rattle.program.specs.Reading.{holds}
 use Rattle.program.specs.Writing.{wordOf, wordsOf}
 use Rattle.program.proofs.Rising.{In, Up, in-left, in-right, in-cases, up-append}
-use Rattle.program.proofs.Numbers.{kind-of-word, number-of-word}
 
 -- the members of the words of a set
 pub from-words : (k : Kind) (X : Atoms) (n x : ℕ) → In x (wordsOf k X n) → (i : ℕ) × (i < n) × (X i ≡ true) × (x ≡ wordOf k i)
@@ -68,38 +67,3 @@ pub same-bool : (a b : Bool) → (a ≡ true → b ≡ true) → (b ≡ true →
 same-bool true b to from = sym (to refl)
 same-bool false true to from = from refl
 same-bool false false to from = refl
-
-pub holds-append : (k : Kind) (xs ys : List ℕ) (i : ℕ) → holds k (xs ++ ys) i ≡ (holds k xs i || holds k ys i)
-holds-append k [] ys i = refl
-holds-append k (x ∷ xs) ys i = ap (λ (b : Bool). (isKind k x && eqb (numberOf x) i) || b) (holds-append k xs ys i) ∙ assoc (isKind k x && eqb (numberOf x) i) (holds k xs i) (holds k ys i)
-  where
-    assoc : (a b c : Bool) → (a || (b || c)) ≡ ((a || b) || c)
-    assoc true b c = refl
-    assoc false b c = refl
-
--- the words of a set hold that set, and nothing of another kind
-pub holds-words : (k : Kind) (X : Atoms) (n : ℕ) → n ≤ 256 → Within n X → (i : ℕ) → holds k (wordsOf k X n) i ≡ X i
-holds-words k X n small within i = same-bool (holds k (wordsOf k X n) i) (X i) to from
-  where
-    to : holds k (wordsOf k X n) i ≡ true → X i ≡ true
-    to h =
-        let f = from-holds k (wordsOf k X n) i h in
-        let g = from-words k X n (f .0) (f .1) in
-        let e : numberOf (f .0) ≡ g .0 = ap numberOf (g .3) ∙ number-of-word k (g .0) (let l = g .1 in omega arith) in
-        subst (λ (j : ℕ). X j ≡ true) (sym e ∙ f .3) (g .2)
-
-    from : X i ≡ true → holds k (wordsOf k X n) i ≡ true
-    from m =
-        let l = within i m in
-        let h = to-holds k (wordsOf k X n) (wordOf k i) (to-words k X n i l m) (ap rank (kind-of-word k i (omega arith))) in
-        subst (λ (j : ℕ). holds k (wordsOf k X n) j ≡ true) (number-of-word k i (omega arith)) h
-
-pub holds-other : (j k : Kind) (X : Atoms) (n : ℕ) → n ≤ 256 → (rank j ≡ rank k → ⊥) → (i : ℕ) → holds j (wordsOf k X n) i ≡ false
-holds-other j k X n small ne i = ⊎-elim (λ h. absurd (wrong h)) (λ h. h) (cases-bool (holds j (wordsOf k X n) i))
-  where
-    wrong : holds j (wordsOf k X n) i ≡ true → ⊥
-    wrong h =
-        let f = from-holds j (wordsOf k X n) i h in
-        let g = from-words k X n (f .0) (f .1) in
-        let e : rank (kindOf (f .0)) ≡ rank k = ap (λ (x : ℕ). rank (kindOf x)) (g .3) ∙ ap rank (kind-of-word k (g .0) (let l = g .1 in omega arith)) in
-        ne (sym (f .2) ∙ e)
