@@ -40,3 +40,7 @@ pushed-four t u v w x a b c d p q r s = s ∙ ap (λ (y : List ℕ). y ++ d) (pu
 
 pub line-parts : (k position : ℕ) (rest : List ℕ) → (codes "rule " ++ (decimal k ++ (codes " at " ++ (decimal position ++ codes ":")))) ++ rest ≡ codes "rule " ++ (decimal k ++ (codes " at " ++ (decimal position ++ (codes ":" ++ rest))))
 line-parts k position rest = simp append-assoc
+
+-- a lead that is known under another name
+pub lead-is : (t u a b later xs : List ℕ) → u ≡ t ++ atomsText a later xs → a ≡ b → u ≡ t ++ atomsText b later xs
+lead-is t u a b later xs p e = p ∙ ap (λ (x : List ℕ). t ++ atomsText x later xs) e

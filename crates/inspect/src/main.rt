@@ -1,6 +1,7 @@
 // Reads a program's bytes from standard input, and prints its account or its refusal.
 use account::report::inspect;
 use program::bytes::MAX_BYTES;
+use program::refusal::RefusalDisplay;
 use std::io;
 use std::io::Read;
 
@@ -12,6 +13,6 @@ fn main(rt: LibcRuntime) -> io::Result<()> {
         .read_to_end(&mut bytes)?;
     match inspect(heap, bytes.as_slice()) {
         Ok(text) => rt.print(text.as_str()),
-        Err(refusal) => println!(rt, "refused {}", refusal.code()),
+        Err(refusal) => println!(rt, "{refusal}"),
     }
 }

@@ -1,6 +1,8 @@
 // Why a call is refused, and its number.
-ghost use Rattle.program.specs.Refusals.{codeOf};
+ghost use Rattle.program.specs.Refusals.{codeOf, refusedText};
+ghost use Rattle.std.specs.declared.option.Option.the-variants.{Some};
 ghost use mathlib.Core.Path.{_≡_};
+use std::fmt;
 
 #[derive(Clone, Copy, Debug, PartialEq, Eq)]
 pub enum Refusal {
@@ -10,7 +12,7 @@ pub enum Refusal {
     TooManyAtoms,
     /// A head, need or bar is no atom of the program.
     NoSuchAtom,
-    /// A part of a rule stands before one of an earlier kind, or its numbers do not rise.
+    /// A part of a rule stands after one of a later kind, or its numbers do not rise.
     OutOfOrder,
     /// An end word has another number than 0.
     BadEnd,
@@ -43,5 +45,15 @@ impl Refusal {
             Refusal::PartialWord => 31,
             Refusal::OutOfMemory => 99,
         }
+    }
+}
+
+/// `refused` with a space and the number.
+pub impl fmt::Display for Refusal as RefusalDisplay {
+    ghost shown = { λ r. Some (refusedText r) };
+
+    fn fmt<W: fmt::Write>(&self, f: &mut fmt::Formatter<W>) -> fmt::Result {
+        let code = self.code();
+        write!(f, "refused {code}")
     }
 }

@@ -3,6 +3,7 @@ use crate::build::*;
 use account::report::inspect;
 use account::text::rule_line;
 use program::refusal::RefusalDebug;
+use program::refusal::RefusalDisplay;
 use program::shown::Shown;
 use program::words::WordProgram;
 use std::test::*;
@@ -109,6 +110,6 @@ fn accounts(rt: LibcRuntime) -> Result<(), Fail> {
     )?;
     match inspect(heap, &bytes[0..12]) {
         Ok(_) => Err(Fail::new("an unfinished rule was accepted")),
-        Err(refusal) => check_eq(refusal.code(), 16),
+        Err(refusal) => check(refusal.to_string(heap)?.as_str() == "refused 16"),
     }
 }

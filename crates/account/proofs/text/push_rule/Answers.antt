@@ -1,13 +1,11 @@
-use mathlib.Core.List.{List, _++_}
 use mathlib.Core.Path.{ap, _∙_}
 use mathlib.Core.Bool.{Bool, cond}
-use Prim.Native.Nat.{ℕ}
 use lib.Chars.{codes}
 use Rattle.std.specs.Of.String.{string-bytes}
 use Rattle.program.specs.declared.word.Kind.the-variants.{Head, Need, Bar}
 use Rattle.program.specs.Showing.{hasKind}
 use Rattle.account.specs.Lines.{atomsText, numbers}
-use Rattle.account.proofs.Texts.{pushed-four}
+use Rattle.account.proofs.Texts.{pushed-four, lead-is}
 use Rattle.account.proofs.text.push_rule.Needs as need
 
 pub returns : need.returns
@@ -19,4 +17,5 @@ returns c =
     (string-bytes (c .push-atoms-3 .last .text)) (atomsText (codes " ") (codes " | ") (numbers Head ws)) (codes " <-")
     (atomsText (codes " ") (codes ", ") (numbers Need ws)) (atomsText (lead (hasKind Need ws)) (codes ", not ") (numbers Bar ws))
     (c .in-Continue-push-atoms .ensures tt) (c .in-Continue-push-str .ensures tt .bytes) (c .in-Continue-push-atoms-2 .ensures tt)
-    (c .in-Continue-push-atoms-3 .ensures tt ∙ ap (λ (x : List ℕ). last ++ atomsText x (codes ", not ") (numbers Bar ws)) (c .choose-first .ensures ∙ ap lead (c .has-kind .ensures)))
+    (lead-is last (string-bytes (c .push-atoms-3 .last .text)) (c .choose-first .result .now) (lead (hasKind Need ws)) (codes ", not ") (numbers Bar ws)
+    (c .in-Continue-push-atoms-3 .ensures tt) (c .choose-first .ensures ∙ ap lead (c .has-kind .ensures)))
