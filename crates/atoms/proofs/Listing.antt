@@ -1,41 +1,17 @@
 -- Lists of sets in order: neighbours, no set twice, at most one list of a property, appending what comes after.
-use mathlib.Core.Path.{_≡_, refl, sym, _∙_}
+use mathlib.Core.Path.{_≡_, sym}
 use mathlib.Core.Logic.{_⊎_, inl, inr, ⊎-elim}
 use mathlib.Core.List.{List, [], _∷_, _++_, map}
 use Prim.Native.Nat.{ℕ, zero, suc, _+_, _<_}
 use native.Mathlib.Omega.{arith}
 use lib.ListN.{length, getD}
-use Rattle.std.specs.shelf.Lists.{All, Has}
+use Rattle.std.specs.shelf.Lists.{Has}
 use Rattle.std.proofs.shelf.Elements.{all-append, all-getD, all-has, all-weaker, has-append-left, has-append-right}
 use Rattle.std.proofs.shelf.Tests.{cases-order}
 use Rattle.atoms.specs.Sets.{Atoms, none, Within, Precedes, First, Rising, Lists, Position, UpTo, After, NotAfter}
 use Rattle.atoms.specs.Laws.{ListLaws}
+use Rattle.atoms.proofs.Ascents.{has-nil, has-cons-cases, ascending-append, same-ascending}
 use Rattle.atoms.proofs.SetOrder.{precedes-transitive, precedes-asymmetric, precedes-not-same, upto-or-after, upto-precedes-after}
-
-module _ {X : Type 0} where
-  pub has-nil : (x : X) → Has [] x → ⊥
-  has-nil x (k, lt, e) = omega arith
-
-  pub has-here : (x : X) (xs : List X) → Has (x ∷ xs) x
-  has-here x xs = (0, omega arith, λ d. refl)
-
-  pub has-there : (y x : X) (xs : List X) → Has xs x → Has (y ∷ xs) x
-  has-there y x xs (k, lt, e) = (suc k, omega arith, e)
-
-  pub has-cons-cases : (y : X) (ys : List X) (x : X) → Has (y ∷ ys) x → (y ≡ x) ⊎ Has ys x
-  has-cons-cases y ys x (zero, lt, e) = inl (e y)
-  has-cons-cases y ys x (suc k, lt, e) = inr (k, omega arith, e)
-
-  pub all-from-has : (Q : X → Type 0) (xs : List X) → ((x : X) → Has xs x → Q x) → All Q xs
-  all-from-has Q [] h = tt
-  all-from-has Q (x ∷ xs) h = (h x (has-here x xs), all-from-has Q xs (λ y m. h y (has-there x y xs m)))
-
-pub rising-append : (L M : List Atoms) → Rising L → Rising M → ((X Y : Atoms) → Has L X → Has M Y → Precedes X Y) → Rising (L ++ M)
-rising-append [] M l m before = m
-rising-append (X ∷ L) M (first, l) m before = (
-  all-append (Precedes X) L M first (all-from-has (Precedes X) M (λ Y h. before X Y (has-here X L) h)),
-  rising-append L M l m (λ Z Y z y. before Z Y (has-there X Z L z) y),
-)
 
 -- in a rising list what stands earlier precedes, so no set stands at two places
 pub rising-at : (L : List Atoms) → Rising L → (i j : ℕ) (d e : Atoms) → i < j → j < length L → Precedes (getD L i d) (getD L j e)
@@ -72,29 +48,8 @@ module _ {A : Type 0} (f : A → Atoms) where
   next-from-rising (x ∷ y ∷ ys) (first, r) zero l d e = first .0
   next-from-rising (x ∷ y ∷ ys) (first, r) (suc k) l d e = next-from-rising (y ∷ ys) r k (omega arith) d e
 
--- two rising lists with the same elements are equal
-pub same-rising : (L M : List Atoms) → Rising L → Rising M → ((X : Atoms) → Has L X → Has M X) → ((X : Atoms) → Has M X → Has L X) → L ≡ M
-same-rising [] [] l m to from = refl
-same-rising [] (Y ∷ M) l m to from = absurd (has-nil Y (from Y (has-here Y M)))
-same-rising (X ∷ L) [] l m to from = absurd (has-nil X (to X (has-here X L)))
-same-rising (X ∷ L) (Y ∷ M) (lx, l) (my, m) to from = let tails = same-rising L M l m down up in λ i. same i ∷ tails i
-  where
-    heads : (Y ≡ X) ⊎ Has M X → (X ≡ Y) ⊎ Has L Y → X ≡ Y
-    heads (inl e) b = sym e
-    heads (inr a) (inl e) = e
-    heads (inr a) (inr b) = absurd (precedes-asymmetric X Y (all-has (Precedes X) L Y lx b) (all-has (Precedes Y) M X my a))
-
-    same : X ≡ Y
-    same = heads (has-cons-cases Y M X (to X (has-here X L))) (has-cons-cases X L Y (from Y (has-here Y M)))
-
-    down : (Z : Atoms) → Has L Z → Has M Z
-    down Z h = ⊎-elim (λ e. absurd (precedes-not-same X Z (all-has (Precedes X) L Z lx h) (same ∙ e))) (λ t. t) (has-cons-cases Y M Z (to Z (has-there X Z L h)))
-
-    up : (Z : Atoms) → Has M Z → Has L Z
-    up Z h = ⊎-elim (λ e. absurd (precedes-not-same Y Z (all-has (Precedes Y) M Z my h) (sym same ∙ e))) (λ t. t) (has-cons-cases X L Z (from Z (has-there Y Z M h)))
-
 pub lists-unique : (Q : Atoms → Type 0) (L M : List Atoms) → Lists Q L → Lists Q M → L ≡ M
-lists-unique Q L M l m = same-rising L M (l .rising) (m .rising) (λ X h. m .whole X (all-has Q L X (l .sound) h)) (λ X h. l .whole X (all-has Q M X (m .sound) h))
+lists-unique Q L M l m = same-ascending Precedes precedes-asymmetric L M (l .rising) (m .rising) (λ X h. m .whole X (all-has Q L X (l .sound) h)) (λ X h. l .whole X (all-has Q M X (m .sound) h))
 
 -- a list of a property is a list of an equivalent one
 pub lists-like : (Q R : Atoms → Type 0) (L : List Atoms) → ((X : Atoms) → Q X → R X) → ((X : Atoms) → R X → Q X) → Lists Q L → Lists R L
@@ -109,7 +64,7 @@ lists-nil Q l X q = has-nil X (l .whole X q)
 -- what is up to p, and then what is after p and up to q
 pub lists-append : (Q : Atoms → Type 0) (p q : Position) (L M : List Atoms) → NotAfter p q → ((X : Atoms) → Q X → UpTo p X ⊎ After p X) → Lists (λ X. Q X × UpTo p X) L → Lists (λ X. Q X × (After p X × UpTo q X)) M → Lists (λ X. Q X × UpTo q X) (L ++ M)
 lists-append Q p q L M before cases l m = record {
-  rising = rising-append L M (l .rising) (m .rising) (λ X Y x y. upto-precedes-after p X Y (all-has (λ Z. Q Z × UpTo p Z) L X (l .sound) x .1) (all-has (λ Z. Q Z × (After p Z × UpTo q Z)) M Y (m .sound) y .1 .0));
+  rising = ascending-append Precedes L M (l .rising) (m .rising) (λ X Y x y. upto-precedes-after p X Y (all-has (λ Z. Q Z × UpTo p Z) L X (l .sound) x .1) (all-has (λ Z. Q Z × (After p Z × UpTo q Z)) M Y (m .sound) y .1 .0));
   sound = all-append (λ X. Q X × UpTo q X) L M (all-weaker (λ X. Q X × UpTo p X) (λ X. Q X × UpTo q X) (λ X c. (c .0, before X (c .1))) L (l .sound)) (all-weaker (λ X. Q X × (After p X × UpTo q X)) (λ X. Q X × UpTo q X) (λ X c. (c .0, c .1 .1)) M (m .sound));
   whole = λ X c. ⊎-elim (λ u. has-append-left L M X (l .whole X (c .0, u))) (λ a. has-append-right L M X (m .whole X (c .0, (a, c .1)))) (cases X (c .0));
 }

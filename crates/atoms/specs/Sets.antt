@@ -43,10 +43,14 @@ Precedes X Y = (i : ℕ) × ((j : ℕ) → j < i → X j ≡ Y j) × (X i ≡ fa
 abbrev pub First : (Atoms → Type 0) → Atoms → Type 0
 First Q X = Q X × ((Y : Atoms) → Q Y → Precedes Y X → ⊥)
 
+-- each element comes before all later ones, in the order R
+abbrev pub Ascending : {X : Type 0} → (X → X → Type 0) → List X → Type 0
+Ascending R [] = Unit {0}
+Ascending R (x ∷ xs) = All (R x) xs × Ascending R xs
+
 -- each set precedes all that come after it
 abbrev pub Rising : List Atoms → Type 0
-Rising [] = Unit {0}
-Rising (X ∷ Xs) = All (Precedes X) Xs × Rising Xs
+Rising L = Ascending Precedes L
 
 -- L lists the sets of which Q holds: those and no others, in order, each once
 pub record Lists (Q : Atoms → Type 0) (L : List Atoms) : Type 0 where

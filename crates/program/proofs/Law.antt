@@ -25,7 +25,7 @@ use Rattle.program.specs.Programs.{Rule, Over, Program}
 use Rattle.program.specs.Reading.{ruleOf, segments, meaning}
 use Rattle.program.specs.Writing.{wordOf, writeRule, written, InBounds}
 use Rattle.program.proofs.RuleWords.{parts, write-parts, parts-atoms, parts-up, read-rule, write-back}
-use Rattle.program.proofs.Rising.{Up}
+use Rattle.atoms.specs.Sets.{Ascending}
 use Rattle.program.proofs.Numbers.{clear-none, none-clear, atom-below, same-rank, number-of-word, word-below, word-of-parts, is-kind-word, lt-follows, end-follows, atom-faultless, end-faultless, endWord}
 use Rattle.program.proofs.Segments.{Clean, clean-from, clean-to, closed, closed-last, clean-ends, count-segments, AtomWord, Rest, Shape, shapes, join-segments, segments-cons}
 
@@ -39,7 +39,7 @@ module _ (n : ℕ) (small : n ≤ 256) where
       ∙ ap₂ (λ (x : Rule) (xs : List Rule). x ∷ xs) (ap ruleOf (sym (write-parts n r)) ∙ read-rule n r small o) (read-rules rs over)
 
   -- The words of rules after an end word are faultless.
-  clean-parts : (t rest : List ℕ) (p e : ℕ) → All (AtomWord n) t → Up t → (isEnd p ≡ true) ⊎ All (λ x. p < x) t → e < 1024 → Clean n endWord (e + 1) rest → Clean n p e (t ++ endWord ∷ rest)
+  clean-parts : (t rest : List ℕ) (p e : ℕ) → All (AtomWord n) t → Ascending _<_ t → (isEnd p ≡ true) ⊎ All (λ x. p < x) t → e < 1024 → Clean n endWord (e + 1) rest → Clean n p e (t ++ endWord ∷ rest)
   clean-parts [] rest p e a u after l c = (end-faultless n p e endWord refl refl l, c)
   clean-parts (w ∷ t) rest p e (aw, a) (lt, u) after l c = (
     atom-faultless n p e w (aw .0) (aw .1) small (⊎-elim (λ q. end-follows p w q) (λ m. lt-follows p w (m .0) (aw .0)) after),

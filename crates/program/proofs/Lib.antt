@@ -1,5 +1,4 @@
 pub mod Walks
-pub mod Rising
 pub mod Numbers
 pub mod Segments
 pub mod Written

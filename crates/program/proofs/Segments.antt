@@ -15,7 +15,7 @@ use Rattle.std.specs.declared.option.Option.the-variants.{None}
 use Rattle.program.specs.Words.{numberOf, isEnd}
 use Rattle.program.specs.Checks.{ends, fault}
 use Rattle.program.specs.Reading.{onto, segments}
-use Rattle.program.proofs.Rising.{Up}
+use Rattle.atoms.specs.Sets.{Ascending}
 use Rattle.program.proofs.Numbers.{follows-lt, fault-atom, fault-end, endWord, end-is}
 
 -- no word has a fault, after the word p and e end words
@@ -112,13 +112,13 @@ join-segments p (w ∷ b) c = go (isEnd w) refl (segments b) refl (join-segments
     go false t (s ∷ ss) q ih = rw (t, q) (ap (λ (x : List ℕ). w ∷ x) (rw q at ih))
 
 -- the words before the end word: they rise, and are all of a rule's parts
-pub fronts : (n p : ℕ) (s : List ℕ) → Rest n p s → (t : List ℕ) × (s ≡ t ++ endWord ∷ []) × All (AtomWord n) t × Up t × ((isEnd p ≡ true) ⊎ All (λ x. p < x) t)
+pub fronts : (n p : ℕ) (s : List ℕ) → Rest n p s → (t : List ℕ) × (s ≡ t ++ endWord ∷ []) × All (AtomWord n) t × Ascending _<_ t × ((isEnd p ≡ true) ⊎ All (λ x. p < x) t)
 fronts n p [] h = absurd h
 fronts n p (w ∷ s) (inl (e, q)) = ([], ap₂ (λ (x : ℕ) (y : List ℕ). x ∷ y) e q, tt, tt, inr tt)
 fronts n p (w ∷ s) (inr (a, after, r)) = go (fronts n w s r)
   where
-    go : (t : List ℕ) × (s ≡ t ++ endWord ∷ []) × All (AtomWord n) t × Up t × ((isEnd w ≡ true) ⊎ All (λ x. w < x) t)
-        → (t : List ℕ) × (w ∷ s ≡ t ++ endWord ∷ []) × All (AtomWord n) t × Up t × ((isEnd p ≡ true) ⊎ All (λ x. p < x) t)
+    go : (t : List ℕ) × (s ≡ t ++ endWord ∷ []) × All (AtomWord n) t × Ascending _<_ t × ((isEnd w ≡ true) ⊎ All (λ x. w < x) t)
+        → (t : List ℕ) × (w ∷ s ≡ t ++ endWord ∷ []) × All (AtomWord n) t × Ascending _<_ t × ((isEnd p ≡ true) ⊎ All (λ x. p < x) t)
     go (t, q, each, u, inl e) = absurd (both-ways (isEnd w) (a .0) e)
     go (t, q, each, u, inr lt) = (
       w ∷ t,
