@@ -1,13 +1,14 @@
 -- The order of `AtomSet`: what a test of the lowest difference tells, and that the order is total.
-use Rattle.std.proofs.Common.{◌≡◌, ℕ, ◌<◌, Bool, true, false, ◌⊎◌, Decides, Ordering, Less, Equal, Greater, sym, refl, ap, ◌∙◌, inl, inr}
-use Rattle.std.proofs.lemmas.Bool.{both_ways, cases_order, true≢false, false≢true}
-use Rattle.std.specs.Cmp.{IsTotalOrder, strict}
-use Rattle.std.specs.Ordering.{MatchOrdering}
+use Rattle.std.proofs.Common.{◌≡◌, ℕ, zero, suc, ◌+◌, ◌<◌, Bool, true, false, ◌⊎◌, Decides, Ordering, Less, Equal, Greater, sym, refl, ap, ◌∙◌, subst, inl, inr, ⊎_elim, arith}
+use Rattle.std.proofs.lemmas.Bool.{both_ways, cases_eq, cases_order, true≢false, false≢true}
+use Rattle.std.specs.Bool.{one_answer}
+use Rattle.std.specs.Cmp.{Equal-is, one_rank}
+use Rattle.std.specs.Ordering.{MatchOrdering, bool_cmp, eq_by_cmp, is_eq, ordering_then}
 use Rattle.atoms.specs.declared.AtomSet.{AtomSet}
 use Rattle.atoms.specs.Sets.{Atoms, Precedes}
-use Rattle.atoms.specs.Member.{Lowest, differ, has}
+use Rattle.atoms.specs.Member.{Lowest, cmp_from, differ, has, set_cmp}
 use Rattle.atoms.proofs.Words.{member_below, same_sets}
-use Rattle.atoms.proofs.SetOrder.{cases_precedes, precedes_irreflexive, precedes_transitive}
+use Rattle.atoms.proofs.SetOrder.{cases_precedes, precedes_irreflexive, precedes_transitive, same_below}
 
 not_differ : (x y : Bool) → differ x y ≡ false → x ≡ y
 not_differ true true e = refl
@@ -54,19 +55,51 @@ cases_sets s t = go (cases_precedes 256 (has s) (has t) (member_below s) (member
 abbrev Rank : AtomSet → AtomSet → Ordering → Type 0
 Rank s t o = MatchOrdering o (Precedes (has s) (has t)) (s ≡ t) (Precedes (has t) (has s))
 
-ranked : (s t : AtomSet) → (o : Ordering) × Rank s t o
-ranked s t = go (cases_sets s t)
+-- what is compared from i on, where the two are the same below i
+cmp_from_ranks : (m i : ℕ) (X Y : Atoms) → ((j : ℕ) → j < i → X j ≡ Y j)
+    → MatchOrdering (cmp_from m i X Y) (Precedes X Y) ((j : ℕ) → j < i + m → X j ≡ Y j) (Precedes Y X)
+unfolding cmp_from
+cmp_from_ranks zero i X Y same = λ j l. same j (omega arith)
+cmp_from_ranks (suc m) i X Y same = go (cmp_from_ranks m (suc i) X Y) (X i) (Y i) refl refl
   where
-    go : (s ≡ t) ⊎ (Precedes (has s) (has t) ⊎ Precedes (has t) (has s)) → (o : Ordering) × Rank s t o
-    go (inl e) = (Equal, e)
-    go (inr (inl p)) = (Less, p)
-    go (inr (inr p)) = (Greater, p)
+    more : X i ≡ Y i → (j : ℕ) → j < suc i → X j ≡ Y j
+    more here j l = ⊎_elim (λ e. ap X e ∙ here ∙ ap Y (sym e)) (λ ne. same j (omega arith)) (cases_eq j i)
 
--- what `sort` and the ordered maps ask of an order
-pub by_lowest : IsTotalOrder (λ (s t : AtomSet) (r : Ordering). MatchOrdering r (Precedes (has s) (has t)) (s ≡ t) (Precedes (has t) (has s)))
-by_lowest =
-    strict (λ (s t : AtomSet). Precedes (has s) (has t)) (λ s. precedes_irreflexive (has s)) (λ s t u. precedes_transitive (has s) (has t) (has u))
-    (λ s t. (ranked s t).0) (λ s t. (ranked s t).1)
+    length_is : (r : Ordering) → MatchOrdering r (Precedes X Y) ((j : ℕ) → j < suc i + m → X j ≡ Y j) (Precedes Y X) → MatchOrdering r (Precedes X Y) ((j : ℕ) → j < i + suc m → X j ≡ Y j) (Precedes Y X)
+    length_is Less h = h
+    length_is Equal h = λ j l. h j (omega arith)
+    length_is Greater h = h
+
+    go : (((j : ℕ) → j < suc i → X j ≡ Y j) → MatchOrdering (cmp_from m (suc i) X Y) (Precedes X Y) ((j : ℕ) → j < suc i + m → X j ≡ Y j) (Precedes Y X))
+        → (x y : Bool) → X i ≡ x → Y i ≡ y → MatchOrdering (ordering_then (bool_cmp x y) (cmp_from m (suc i) X Y)) (Precedes X Y) ((j : ℕ) → j < i + suc m → X j ≡ Y j) (Precedes Y X)
+    go rest true true x y = length_is (cmp_from m (suc i) X Y) (rest (more (x ∙ sym y)))
+    go rest true false x y = (i, (λ j l. sym (same j l)), y, x)
+    go rest false true x y = (i, same, x, y)
+    go rest false false x y = length_is (cmp_from m (suc i) X Y) (rest (more (x ∙ sym y)))
+
+pub ranked : (s t : AtomSet) → Rank s t (set_cmp s t)
+ranked s t = go (set_cmp s t) (cmp_from_ranks 256 0 (has s) (has t) (λ j l. absurd (omega arith)))
+  where
+    go : (o : Ordering) → MatchOrdering o (Precedes (has s) (has t)) ((j : ℕ) → j < 0 + 256 → has s j ≡ has t j) (Precedes (has t) (has s)) → Rank s t o
+    go Less h = h
+    go Equal h = same_sets s t (λ i. ap (λ (X : Atoms). X i) (same_below 256 (has s) (has t) (member_below s) (member_below t) (λ j l. h j (omega arith))))
+    go Greater h = h
+
+-- there is one answer
+pub cmp_is : (s t : AtomSet) (o : Ordering) → Rank s t o → o ≡ set_cmp s t
+cmp_is s t o h =
+    one_rank (λ (s t : AtomSet). Precedes (has s) (has t)) (λ s. precedes_irreflexive (has s)) (λ s t u. precedes_transitive (has s) (has t) (has u))
+    s t o (set_cmp s t) h (ranked s t)
+
+-- a test that tells whether two sets are the same answers what `==` does
+pub eq_is : (s t : AtomSet) (r : Bool) → Decides r (s ≡ t) → r ≡ eq_by_cmp set_cmp s t
+eq_is s t r d = one_answer r (eq_by_cmp set_cmp s t) d (to, from)
+  where
+    to : is_eq (set_cmp s t) ≡ true → s ≡ t
+    to e = subst (λ (o : Ordering). Rank s t o) ((Equal-is (set_cmp s t)).0 e) (ranked s t)
+
+    from : s ≡ t → is_eq (set_cmp s t) ≡ true
+    from e = ap is_eq (sym (cmp_is s t Equal e))
 
 -- where neither precedes, they are the same
 pub neither : (s t : AtomSet) → (Precedes (has s) (has t) → ⊥) → (Precedes (has t) (has s) → ⊥) → s ≡ t

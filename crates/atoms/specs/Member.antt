@@ -1,5 +1,8 @@
 -- Which atoms an `AtomSet` holds.
 use Rattle.std.specs.Prelude.{◌≡◌, ℕ, zero, suc, ◌+◌, ◌/◌, ◌%◌, ◌^◌, ◌<◌, Bool, true, false, cond, not, ◌&&◌, ◌||◌, ◌==◌, slice_index}
+use Rattle.std.specs.declared.cmp.Ordering.{Ordering}
+use Rattle.std.specs.declared.cmp.Ordering.TheVariants.{Equal}
+use Rattle.std.specs.Ordering.{bool_cmp, ordering_then}
 use Rattle.atoms.specs.Sets.{Atoms}
 use Rattle.atoms.specs.declared.AtomSet.{AtomSet}
 
@@ -27,3 +30,12 @@ Lowest X i = (X i ≡ true) × ((j : ℕ) → j < i → X j ≡ false)
 -- whether two tests differ
 abbrev pub differ : Bool → Bool → Bool
 differ x y = (x && not y) || (y && not x)
+
+-- X against Y at the m atoms from i on: at the lowest one in which they differ, the set that lacks it is less
+unfoldable pub cmp_from : ℕ → ℕ → Atoms → Atoms → Ordering
+cmp_from zero i X Y = Equal
+cmp_from (suc m) i X Y = ordering_then (bool_cmp (X i) (Y i)) (cmp_from m (suc i) X Y)
+
+-- what `cmp` answers
+abbrev pub set_cmp : AtomSet → AtomSet → Ordering
+set_cmp s t = cmp_from 256 0 (has s) (has t)

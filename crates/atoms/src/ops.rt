@@ -1,10 +1,10 @@
 // The operations on sets. Each contract says, of every number i, whether i is in the result.
 ghost use Rattle.std.specs.Prelude.{◌≡◌, ℕ, ◌≤◌, false, not, ◌&&◌, ◌||◌, Decides, MatchOption, ◌==◌, nat_lt};
-ghost use Rattle.atoms.specs.Member.{Lowest, has, size};
+ghost use Rattle.atoms.specs.Member.{Lowest, has, set_cmp, size};
 ghost use Rattle.atoms.specs.Sets.{Apart, Sub};
-ghost use Rattle.std.specs.Cmp.Rules.{comparing};
-ghost use Rattle.std.proofs.Common.{rules, arith};
-ghost use Rattle.std.specs.Cmp as Keys;
+ghost use Rattle.std.specs.Cmp.{eq_by_cmp_equiv, partial_equiv_from_equiv};
+ghost use Rattle.std.specs.Ordering.{eq_by_cmp};
+ghost use Rattle.atoms.specs.Order.{set_cmp_total};
 
 use super::AtomSet;
 use super::word_ops::{
@@ -120,15 +120,19 @@ impl AtomSet {
 }
 
 impl PartialEq for AtomSet {
-    ghost equals = { λ a b r. Decides r (a ≡ b) × Decides r ((i : ℕ) → has a i ≡ has b i) };
+    ghost eq = { eq_by_cmp set_cmp };
 
-    ghost laws = { Keys.partial_equiv_from_equiv (first_of (Prim.search (comparing, rules), Prim.grind (arith, Self.row.coded.inj))) };
+    ghost laws = { partial_equiv_from_equiv (eq_by_cmp_equiv set_cmp_total) };
 
-    fn eq(&self, other: &AtomSet) -> bool {
+    fn eq(&self, other: &AtomSet) -> bool
+        ensures value { result ≡ eq_by_cmp set_cmp self.now other.now }
+        ensures same { Decides result (self.now ≡ other.now) }
+        ensures members { Decides result ((i : ℕ) → has self.now i ≡ has other.now i) }
+    {
         same_words(&self.words, &other.words)
     }
 }
 
 impl Eq for AtomSet {
-    ghost laws = { first_of (Prim.search (comparing, rules), Prim.grind (arith, Self.row.coded.inj)) };
+    ghost laws = { eq_by_cmp_equiv set_cmp_total };
 }

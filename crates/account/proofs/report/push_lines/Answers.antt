@@ -20,30 +20,30 @@ with-counts-requires c =
     omega (arith, c.loop-k.invariant.few, c.loop-k-test.true, ap length c.rules-rules.ensures, length-map (vec_items t.rules) as_rule, t.few_rules)
 
 -- the slice has the words of rule k
-spelled : (c : After-with-counts) → let t = c.args.table.now in c.as-slice-part.result.now ≡ write_rule t.atoms (rule_at (tabled t).rules c.loop-k.k)
+spelled : (c : After-with-counts) → let t = c.args.table.now in c.as_slice-part.result.now ≡ write_rule t.atoms (rule_at (tabled t).rules c.loop-k.k)
 spelled c =
-    table_words c.atom-count.result c.args.table.now.atoms c.rules-rules.result.now (vec_items c.args.table.now.rules) c.loop-k.k c.index-rules-k.result
-    (vec_items c.in-ok-words.words) c.as-slice-part.result.now c.loop-k-test.true c.index-rules-k.is c.rules-rules.ensures c.atom-count.ensures
-    c.in-ok-words.ensures c.as-slice-part.ensures.value
+    table_words c.atom_count.result c.args.table.now.atoms c.rules-rules.result.now (vec_items c.args.table.now.rules) c.loop-k.k c.index-rules-k.result
+    (vec_items c.in_ok-words.words) c.as_slice-part.result.now c.loop-k-test.true c.index-rules-k.is c.rules-rules.ensures c.atom_count.ensures
+    c.in_ok-words.ensures c.as_slice-part.ensures.value
 
 there : (c : After-with-counts) → c.loop-k.k < length (tabled c.args.table.now).rules
 there c = omega (arith, ap length c.rules-rules.ensures, length-map (vec_items c.args.table.now.rules) as_rule)
 
-pub overflow-add-position : goal.overflow-add-position
-overflow-add-position c =
+pub overflow_add-position : goal.overflow_add-position
+overflow_add-position c =
     let t = c.args.table.now in
-    omega (arith, listed_fits (tabled t) (table_limits t) (string_bytes c.args.text.now) c.loop-k.k (there c) c.as-slice-part.result.now (spelled c) (string_bytes c.loop-k.text) c.loop-k.counts c.loop-k.position c.loop-k.invariant, there c, t.few_rules)
+    omega (arith, listed_fits (tabled t) (table_limits t) (string_bytes c.args.text.now) c.loop-k.k (there c) c.as_slice-part.result.now (spelled c) (string_bytes c.loop-k.text) c.loop-k.counts c.loop-k.position c.loop-k.invariant, there c, t.few_rules)
 
 pub loop-k-preserved : goal.loop-k-preserved
 loop-k-preserved c =
     let t = c.args.table.now in
     let at = (goal.at.loop-k-preserved c).After-with-counts in
     let old = c.loop-k.counts in
-    listed_more (tabled t) (table_limits t) (string_bytes c.args.text.now) c.loop-k.k (there at) c.as-slice-part.result.now (spelled at) (string_bytes c.loop-k.text)
-    (string_bytes c.push-line.new.text) old c.with-counts.result c.loop-k.position c.loop-k.invariant c.in-ok-push-line.ensures
-    (c.with-counts.ensures.facts ∙ ap (λ (f : Form). old.facts + cond (same_form f form.Fact) 1 0) c.form-of.ensures)
-    (c.with-counts.ensures.bodies ∙ ap (λ (f : Form). old.bodies + cond (same_form f form.Rule) 1 0) c.form-of.ensures)
-    (c.with-counts.ensures.constraints ∙ ap (λ (f : Form). old.constraints + cond (same_form f form.Constraint) 1 0) c.form-of.ensures)
+    listed_more (tabled t) (table_limits t) (string_bytes c.args.text.now) c.loop-k.k (there at) c.as_slice-part.result.now (spelled at) (string_bytes c.loop-k.text)
+    (string_bytes c.push_line.new.text) old c.with-counts.result c.loop-k.position c.loop-k.invariant c.in_ok-push_line.ensures
+    (c.with-counts.ensures.facts ∙ ap (λ (f : Form). old.facts + cond (same_form f form.Fact) 1 0) c.form_of.ensures)
+    (c.with-counts.ensures.bodies ∙ ap (λ (f : Form). old.bodies + cond (same_form f form.Rule) 1 0) c.form_of.ensures)
+    (c.with-counts.ensures.constraints ∙ ap (λ (f : Form). old.constraints + cond (same_form f form.Constraint) 1 0) c.form_of.ensures)
 
 pub returns : goal.returns
 returns c =

@@ -8,5 +8,5 @@ use Rattle.account.proofs.report.summarize.Goals as goal
 pub returns : goal.returns
 returns c =
     let t = c.args.table.now in
-    summary_is (tabled t) (table_limits t) c.atom-count.result (length c.rules.result.now) c.args.counts (string_bytes c.in-ok-text.text)
-    c.in-ok-text.ensures c.atom-count.ensures (ap length c.rules.ensures ∙ sym (length-map (vec_items t.rules) as_rule)) c.requires
+    summary_is (tabled t) (table_limits t) c.atom_count.result (length c.rules.result.now) c.args.counts (string_bytes c.in_ok-text.text)
+    c.in_ok-text.ensures c.atom_count.ensures (ap length c.rules.ensures ∙ sym (length-map (vec_items t.rules) as_rule)) c.requires

@@ -3,4 +3,4 @@ use Rattle.atoms.proofs.Words.{inserted}
 use Rattle.atoms.proofs.AtomSet.insert.Goals as goal
 
 pub returns : goal.returns
-returns c = inserted c.args.self.now.words c.args.i c.with-digit.result (omega arith) c.args.self.now.long c.with-digit.ensures
+returns c = inserted c.args.self.now.words c.args.i c.with_digit.result (omega arith) c.args.self.now.long c.with_digit.ensures

@@ -5,8 +5,8 @@ use Rattle.atoms.proofs.AtomSet.lowest.Goals as goal
 pub returns-then-self-k-ne0 : goal.returns-then-self-k-ne0
 returns-then-self-k-ne0 c =
     let s = c.args.self.now in
-    lowest_at s.words (whole s) c.loop-k.k c.if-self-k-ne0.true c.loop-k.invariant (64 * c.loop-k.k + c.low-digit.result)
-    (ap (λ n. 64 * c.loop-k.k + n) c.low-digit.ensures.value)
+    lowest_at s.words (whole s) c.loop-k.k c.if-self-k-ne0.true c.loop-k.invariant (64 * c.loop-k.k + c.low_digit.result)
+    (ap (λ n. 64 * c.loop-k.k + n) c.low_digit.ensures.value)
 
 pub returns : goal.returns
 returns c = let s = c.args.self.now in no_word_atom s.words s.long (λ j l. c.loop-k.invariant j (omega arith))

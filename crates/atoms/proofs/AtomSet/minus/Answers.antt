@@ -7,5 +7,5 @@ use Rattle.atoms.proofs.AtomSet.minus.Goals as goal
 
 pub returns : goal.returns
 returns c =
-    by_place (λ x y. bit_and x (2 ^ 64 - 1 - y)) (λ a b. a && not b) refl c.args.self.now c.args.other.now c.and-not-words.result c.and-not-words.ensures
+    by_place (λ x y. bit_and x (2 ^ 64 - 1 - y)) (λ a b. a && not b) refl c.args.self.now c.args.other.now c.and_not_words.result c.and_not_words.ensures
     (λ x y k h l. bit_of_and x (2 ^ 64 - 1 - y) k ∙ ap (λ (b : Bool). bit x k && b) (bit_not 64 y k h l))

@@ -12,6 +12,6 @@ pub returns : goal.returns
 returns c i =
     let d = c.args.d in
     let s = c.args.self.now in
-    four_words (λ i. leb d i && has s (i - d)) c.shifted_word.result c.shifted-word-2.result c.shifted-word-3.result c.shifted-word-4.result
-    c.shifted_word.ensures c.shifted-word-2.ensures c.shifted-word-3.ensures c.shifted-word-4.ensures i
+    four_words (λ i. leb d i && has s (i - d)) c.shifted_word.result c.shifted_word-2.result c.shifted_word-3.result c.shifted_word-4.result
+    c.shifted_word.ensures c.shifted_word-2.ensures c.shifted_word-3.ensures c.shifted_word-4.ensures i
     ∙ regroup (ltb i 256) (leb d i) (has s (i - d))

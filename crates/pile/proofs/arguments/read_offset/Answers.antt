@@ -8,15 +8,15 @@ returns-then-args-i-le1 c =
     let xs = c.args.args.now in
     offset_short (map string_bytes xs) c.args.i (length xs) (length-map xs string_bytes) c.requires.option c.requires.within c.if-args-i-le1.true
 
-pub returns-in-err-by : goal.returns-in-err-by
-returns-in-err-by c =
+pub returns-in_err-by : goal.returns-in_err-by
+returns-in_err-by c =
     let xs = c.args.args.now in
-    let f = c.in-err-by.field-0.0 in
-    stopped (map string_bytes xs) c.args.i c.from-residual.result f c.from-residual.ensures.1
+    let f = c.in_err-by.field-0.0 in
+    stopped (map string_bytes xs) c.args.i c.from_residual.result f c.from_residual.ensures.1
     (offset_wrong (map string_bytes xs) c.args.i f (offset_at (map string_bytes xs) c.args.i (length xs) (length-map xs string_bytes) c.requires.option c.if-args-i-le1.false)
-    c.in-err-by.ensures)
+    c.in_err-by.ensures)
 
 pub returns : goal.returns
 returns c =
     let xs = c.args.args.now in
-    (offset_at (map string_bytes xs) c.args.i (length xs) (length-map xs string_bytes) c.requires.option c.if-args-i-le1.false, c.in-ok-by.ensures)
+    (offset_at (map string_bytes xs) c.args.i (length xs) (length-map xs string_bytes) c.requires.option c.if-args-i-le1.false, c.in_ok-by.ensures)

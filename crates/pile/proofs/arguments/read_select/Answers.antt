@@ -8,33 +8,33 @@ returns-then-args-i-le3 c =
     let xs = c.args.args.now in
     select_short (map string_bytes xs) c.args.i (length xs) (length-map xs string_bytes) c.requires.option c.requires.within c.if-args-i-le3.true
 
-pub returns-in-err-box-atom : goal.returns-in-err-box-atom
-returns-in-err-box-atom c =
+pub returns-in_err-box_atom : goal.returns-in_err-box_atom
+returns-in_err-box_atom c =
     let xs = c.args.args.now in
-    let f = c.in-err-box-atom.field-0.0 in
-    stopped (map string_bytes xs) c.args.i c.from-residual.result f c.from-residual.ensures.1
+    let f = c.in_err-box_atom.field-0.0 in
+    stopped (map string_bytes xs) c.args.i c.from_residual.result f c.from_residual.ensures.1
     (box_wrong (map string_bytes xs) c.args.i f (select_at (map string_bytes xs) c.args.i (length xs) (length-map xs string_bytes) c.requires.option c.if-args-i-le3.false)
-    c.in-err-box-atom.ensures)
+    c.in_err-box_atom.ensures)
 
-pub returns-in-err-first : goal.returns-in-err-first
-returns-in-err-first c =
+pub returns-in_err-first : goal.returns-in_err-first
+returns-in_err-first c =
     let xs = c.args.args.now in
-    let f = c.in-err-first.field-0.0 in
-    stopped (map string_bytes xs) c.args.i c.from-residual-in-err-first.result f c.from-residual-in-err-first.ensures.1
+    let f = c.in_err-first.field-0.0 in
+    stopped (map string_bytes xs) c.args.i c.from_residual-in_err-first.result f c.from_residual-in_err-first.ensures.1
     (first_wrong (map string_bytes xs) c.args.i f (select_at (map string_bytes xs) c.args.i (length xs) (length-map xs string_bytes) c.requires.option c.if-args-i-le3.false)
-    c.in-ok-box-atom.box-atom c.in-ok-box-atom.ensures c.in-err-first.ensures)
+    c.in_ok-box_atom.box_atom c.in_ok-box_atom.ensures c.in_err-first.ensures)
 
-pub returns-in-err-last : goal.returns-in-err-last
-returns-in-err-last c =
+pub returns-in_err-last : goal.returns-in_err-last
+returns-in_err-last c =
     let xs = c.args.args.now in
-    let f = c.in-err-last.field-0.0 in
-    stopped (map string_bytes xs) c.args.i c.from-residual-in-err-last.result f c.from-residual-in-err-last.ensures.1
+    let f = c.in_err-last.field-0.0 in
+    stopped (map string_bytes xs) c.args.i c.from_residual-in_err-last.result f c.from_residual-in_err-last.ensures.1
     (last_wrong (map string_bytes xs) c.args.i f (select_at (map string_bytes xs) c.args.i (length xs) (length-map xs string_bytes) c.requires.option c.if-args-i-le3.false)
-    c.in-ok-box-atom.box-atom c.in-ok-first.first c.in-ok-box-atom.ensures c.in-ok-first.ensures c.in-err-last.ensures)
+    c.in_ok-box_atom.box_atom c.in_ok-first.first c.in_ok-box_atom.ensures c.in_ok-first.ensures c.in_err-last.ensures)
 
 pub returns : goal.returns
 returns c =
     let xs = c.args.args.now in
-    selected (map string_bytes xs) c.args.i c.in-ok-box-atom.box-atom c.in-ok-first.first c.in-ok-last.last c.select.result
+    selected (map string_bytes xs) c.args.i c.in_ok-box_atom.box_atom c.in_ok-first.first c.in_ok-last.last c.select.result
     (select_at (map string_bytes xs) c.args.i (length xs) (length-map xs string_bytes) c.requires.option c.if-args-i-le3.false)
-    (c.in-ok-box-atom.ensures, c.in-ok-first.ensures, c.in-ok-last.ensures) c.select.ensures
+    (c.in_ok-box_atom.ensures, c.in_ok-first.ensures, c.in_ok-last.ensures) c.select.ensures

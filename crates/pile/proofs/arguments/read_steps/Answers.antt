@@ -7,8 +7,8 @@ pub loop-i-preserved : goal.loop-i-preserved
 loop-i-preserved c =
     let xs = c.args.args.now in
     one_more (map string_bytes xs) (length xs) (length-map xs string_bytes) (vec_items c.loop-i.steps) c.loop-i.i c.loop-i.invariant.0
-    c.in-ok-step.step (vec_items c.push.new.self) c.width-of-i.result c.in-ok-step.ensures
-    c.in-ok-push.ensures.items c.width-of-i.ensures
+    c.in_ok-step.step (vec_items c.push.new.self) c.width_of-i.result c.in_ok-step.ensures
+    c.in_ok-push.ensures.items c.width_of-i.ensures
 
 pub returns : goal.returns
 returns c =

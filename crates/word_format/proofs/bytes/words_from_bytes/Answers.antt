@@ -6,8 +6,8 @@ use Rattle.word_format.proofs.bytes.words_from_bytes.Goals as goal
 
 pub loop-i-preserved : goal.loop-i-preserved
 loop-i-preserved c =
-    words_more c.args.bytes.now c.loop-i.i (vec_items c.loop-i.words) (vec_items c.push.new.self) c.from-be-bytes.result
-    c.loop-i-test.true c.loop-i.invariant c.from-be-bytes.ensures c.in-ok-push.ensures.items
+    words_more c.args.bytes.now c.loop-i.i (vec_items c.loop-i.words) (vec_items c.push.new.self) c.from_be_bytes.result
+    c.loop-i-test.true c.loop-i.invariant c.from_be_bytes.ensures c.in_ok-push.ensures.items
 
 pub returns : goal.returns
 returns c =

@@ -4,14 +4,14 @@ use Rattle.word_format.proofs.Verdicts.{only_refusal, reads}
 use Rattle.word_format.proofs.Walks.{walked_more, walked_refused, walked_all}
 use Rattle.word_format.proofs.check.check.Goals as goal
 
-pub returns-in-err-take : goal.returns-in-err-take
-returns-in-err-take c =
-    let p = err_from_is_err_and c.from-residual.result c.from-residual.ensures.1 in
+pub returns-in_err-take : goal.returns-in_err-take
+returns-in_err-take c =
+    let p = err_from_is_err_and c.from_residual.result c.from_residual.ensures.1 in
     let ws = c.args.words.now in
-    let e = c.in-err-take.field-0.0 in
+    let e = c.in_err-take.field-0.0 in
     let v =
     walked_refused ws c.loop-i.invariant.0 c.loop-i.check c.take.new.self c.loop-i.i e c.loop-i-test.true c.loop-i.invariant.1
-    c.in-err-take.ensures.first c.in-err-take.ensures.later
+    c.in_err-take.ensures.first c.in_err-take.ensures.later
     in
     rw (p.1, p.2) (record { verdict = v; only = only_refusal ws (Err e) v; law = reads ws (Err e) v })
 
@@ -19,7 +19,7 @@ pub loop-i-preserved : goal.loop-i-preserved
 loop-i-preserved c = (
   c.loop-i.invariant.0,
   walked_more c.args.words.now c.loop-i.invariant.0 c.loop-i.check c.take.new.self c.loop-i.i c.loop-i-test.true
-      c.loop-i.invariant.1 c.in-ok-take.ensures.first c.in-ok-take.ensures.later,
+      c.loop-i.invariant.1 c.in_ok-take.ensures.first c.in_ok-take.ensures.later,
 )
 
 pub returns : goal.returns
@@ -27,7 +27,7 @@ returns c =
     let ws = c.args.words.now in
     let r = c.finish.result in
     let v =
-    walked_all ws c.loop-i.i c.loop-i.check r (omega arith) c.loop-i.invariant.0 c.loop-i.invariant.1 (λ i _. (c.type-inv.words i).fits)
+    walked_all ws c.loop-i.i c.loop-i.check r (omega arith) c.loop-i.invariant.0 c.loop-i.invariant.1 (λ i _. (c.type_inv.words i).fits)
     c.finish.ensures.none c.finish.ensures.some
     in
     record { verdict = v; only = only_refusal ws r v; law = reads ws r v }

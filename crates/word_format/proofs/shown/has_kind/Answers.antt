@@ -6,7 +6,7 @@ use Rattle.word_format.proofs.shown.has_kind.Goals as goal
 
 pub loop-word-preserved : goal.loop-word-preserved
 loop-word-preserved c =
-    ap (λ (b : Bool). c.loop-word.found || b) c.is-kind-found.ensures
+    ap (λ (b : Bool). c.loop-word.found || b) c.is_kind-found.ensures
     ∙ kind_more c.args.kind c.args.words.now c.loop-word.word-index c.loop-word.found c.loop-word-test.true c.loop-word.invariant
 
 pub returns : goal.returns

@@ -9,7 +9,7 @@ pub returns : goal.returns
 returns c =
     let n = c.args.atoms in
     let r = c.args.rule.now in
-    pushed_rule (vec_items c.new-words.result) (vec_items c.push-part.new.words) (vec_items c.push-part-2.new.words) (vec_items c.push-part-3.new.words)
-    (vec_items c.push.new.self) (words_of Head (has r.heads) n) (words_of Need (has r.needs) n) (words_of Bar (has r.bars) n) c.word-of.result (word_of End 0)
-    c.new-words.ensures.items c.in-ok-push-part.ensures c.in-ok-push-part-2.ensures c.in-ok-push-part-3.ensures
-    c.in-ok-push.ensures.items c.word-of.ensures
+    pushed_rule (vec_items c.new-words.result) (vec_items c.push_part.new.words) (vec_items c.push_part-2.new.words) (vec_items c.push_part-3.new.words)
+    (vec_items c.push.new.self) (words_of Head (has r.heads) n) (words_of Need (has r.needs) n) (words_of Bar (has r.bars) n) c.word_of.result (word_of End 0)
+    c.new-words.ensures.items c.in_ok-push_part.ensures c.in_ok-push_part-2.ensures c.in_ok-push_part-3.ensures
+    c.in_ok-push.ensures.items c.word_of.ensures

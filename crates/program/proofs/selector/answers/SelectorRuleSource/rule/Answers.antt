@@ -11,8 +11,8 @@ returns-then-k-eq0 c =
     let s = c.args.self.now in
     let box = some_outlet s.box_atom s.first s.last in
     let yes =
-    first_rule box (exclusions_in s) c.args.k (as_rule c.args.place.now) (as_rule c.some-outlet.result) c.if-k-eq0.true
-    (held c.some-outlet.result box c.some-outlet.ensures)
+    first_rule box (exclusions_in s) c.args.k (as_rule c.args.place.now) (as_rule c.some_outlet.result) c.if-k-eq0.true
+    (held c.some_outlet.result box c.some_outlet.ensures)
     in
     record { test = yes.0; after = yes.1 }
 
@@ -23,7 +23,7 @@ returns-in-Some c =
     let two = exclusion p.low p.high in
     let yes =
     later_rule (some_outlet s.box_atom s.first s.last) (exclusions_in s) c.args.k (as_rule c.args.place.now)
-    (as_rule c.exclusion-of.result) two c.if-k-eq0.false c.in-Some.ensures (held c.exclusion-of.result two c.exclusion-of.ensures)
+    (as_rule c.exclusion_of.result) two c.if-k-eq0.false c.in-Some.ensures (held c.exclusion_of.result two c.exclusion_of.ensures)
     in
     record { test = yes.0; after = yes.1 }
 
