@@ -1,6 +1,6 @@
 -- Lists in a strict order: what is in a list, lists that append, and that two with the same elements are equal.
 use Rattle.std.proofs.Common.{◌≡◌, zero, suc, ◌⊎◌, List, [], ◌∷◌, ◌++◌, sym, refl, ◌∙◌, subst, ap₂, inl, inr, ⊎_elim, arith}
-use Rattle.std.specs.List.{ContainsAt as Has, AllByRecursion as All}
+use Rattle.std.specs.List.{ContainsAt as Has, AllByRecursion}
 use Rattle.std.proofs.ByRecursion.{All-append, all-has}
 use Rattle.atoms.specs.Sets.{Ascending}
 
@@ -25,7 +25,7 @@ module _ {X : Type 0} where
   has_append_cases [] ys x h = inr h
   has_append_cases (z ∷ xs) ys x h = ⊎_elim (λ e. inl (subst (λ w. Has (z ∷ xs) w) e (has_here z xs))) (λ t. ⊎_elim (λ l. inl (has_there z x xs l)) inr (has_append_cases xs ys x t)) (has_cons_cases z (xs ++ ys) x h)
 
-  pub all_from_has : (Q : X → Type 0) (xs : List X) → ((x : X) → Has xs x → Q x) → All Q xs
+  pub all_from_has : (Q : X → Type 0) (xs : List X) → ((x : X) → Has xs x → Q x) → AllByRecursion Q xs
   all_from_has Q [] h = tt
   all_from_has Q (x ∷ xs) h = (h x (has_here x xs), all_from_has Q xs (λ y m. h y (has_there x y xs m)))
 

@@ -1,6 +1,6 @@
 -- The laws of the order of sets, and of lists of sets in that order.
 use Rattle.std.specs.Prelude.{◌≡◌, ℕ, ◌<◌, ◌⊎◌, List, ◌++◌, length, slice_index_or}
-use Rattle.std.specs.List.{ContainsAt as Has, AllByRecursion as All}
+use Rattle.std.specs.List.{ContainsAt as Has, AllByRecursion}
 use Rattle.atoms.specs.Sets.{Atoms, none, Within, Precedes, Rising, Lists, Position, UpTo, After, PositionWithin, NotAfter}
 
 pub record OrderLaws : Type 0 where
@@ -19,5 +19,5 @@ pub record ListLaws : Type 0 where
   -- two lists of the same sets are equal
   pub unique : (K L M : List Atoms) → Lists (Has K) L → Lists (Has K) M → L ≡ M
   -- what is up to p, followed by what is after p and up to q, is what is up to q
-  pub append : (n : ℕ) (K : List Atoms) (p q : Position) (L M : List Atoms) → All (Within n) K → PositionWithin n p → NotAfter p q
+  pub append : (n : ℕ) (K : List Atoms) (p q : Position) (L M : List Atoms) → AllByRecursion (Within n) K → PositionWithin n p → NotAfter p q
       → Lists (λ X. Has K X × UpTo p X) L → Lists (λ X. Has K X × (After p X × UpTo q X)) M → Lists (λ X. Has K X × UpTo q X) (L ++ M)

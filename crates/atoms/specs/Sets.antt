@@ -1,6 +1,6 @@
 -- Sets of atoms, by membership, and their order.
 use Rattle.std.specs.Prelude.{◌≡◌, ℕ, ◌<◌, Bool, true, false, not, ◌&&◌, ◌⊎◌, List, [], ◌∷◌}
-use Rattle.std.specs.List.{ContainsAt as Has, AllByRecursion as All}
+use Rattle.std.specs.List.{ContainsAt as Has, AllByRecursion}
 
 -- a set says of each number whether it is in
 abbrev pub Atoms : Type 0
@@ -42,7 +42,7 @@ First Q X = Q X × ((Y : Atoms) → Q Y → Precedes Y X → ⊥)
 -- each element comes before all later ones, in the order R
 abbrev pub Ascending : {X : Type 0} → (X → X → Type 0) → List X → Type 0
 Ascending R [] = Unit {0}
-Ascending R (x ∷ xs) = All (R x) xs × Ascending R xs
+Ascending R (x ∷ xs) = AllByRecursion (R x) xs × Ascending R xs
 
 -- each set precedes all that come after it
 abbrev pub Rising : List Atoms → Type 0
@@ -51,7 +51,7 @@ Rising L = Ascending Precedes L
 -- L lists the sets of which Q holds: those and no others, in order, each once
 pub record Lists (Q : Atoms → Type 0) (L : List Atoms) : Type 0 where
   pub rising : Rising L
-  pub sound : All Q L
+  pub sound : AllByRecursion Q L
   pub whole : (X : Atoms) → Q X → Has L X
 
 -- a position in the order: before every set, at a set, after all

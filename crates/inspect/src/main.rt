@@ -1,4 +1,6 @@
 // Reads a program's bytes from standard input, and prints the account of the pile that the arguments make of it, or the refusal.
+#![tactic(auto)]
+
 use account::inspect::inspect;
 use pile::arguments::read_steps;
 use pile::step::Step;

@@ -1,8 +1,8 @@
 -- Sources that are made of others keep the limits. These are proofs: they stand here since what a source gives as
 -- its member `small` may cite this folder only.
-use Rattle.std.specs.Prelude.{ℕ, zero, suc, ◌+◌, ◌-◌, ◌≤◌, max, true, false, List, [], ◌∷◌, ◌++◌, map, length, nat_le}
+use Rattle.std.specs.Prelude.{ℕ, zero, suc, ◌+◌, ◌-◌, ◌≤◌, max, List, [], ◌∷◌, ◌++◌, map, length, nat_le}
 use Rattle.std.proofs.Common.{arith}
-use Rattle.std.specs.List.{AllByRecursion as All}
+use Rattle.std.specs.List.{AllByRecursion}
 use Rattle.std.proofs.ByRecursion.{All-append, All-weaker}
 use Rattle.std.proofs.lemmas.List.{length-append, length-map}
 use Rattle.std.proofs.lemmas.Bool.{leb-true, cond_both, and_parts, false≢true}
@@ -15,12 +15,12 @@ use Rattle.program.specs.Combined.{united, joint, raised, raised_rule, raised_pr
 no_rule_over : (n : ℕ) → Over n no_rule
 no_rule_over n = (λ i h. absurd (false≢true h), λ i h. absurd (false≢true h), λ i h. absurd (false≢true h))
 
-pub over_each : (n : ℕ) (rs : List Rule) → All (Over n) rs → (k : ℕ) → Over n (rule_at rs k)
+pub over_each : (n : ℕ) (rs : List Rule) → AllByRecursion (Over n) rs → (k : ℕ) → Over n (rule_at rs k)
 over_each n [] h k = no_rule_over n
 over_each n (r ∷ rs) (o, h) zero = o
 over_each n (r ∷ rs) (o, h) (suc k) = over_each n rs h k
 
-pub over_all : (n : ℕ) (rs : List Rule) → ((k : ℕ) → Over n (rule_at rs k)) → All (Over n) rs
+pub over_all : (n : ℕ) (rs : List Rule) → ((k : ℕ) → Over n (rule_at rs k)) → AllByRecursion (Over n) rs
 over_all n [] h = tt
 over_all n (r ∷ rs) h = (h 0, over_all n rs (λ k. h (suc k)))
 
@@ -45,7 +45,7 @@ united_small (program P) (program Q) sa sb =
 raised_within : (d n : ℕ) (X : Atoms) → Within n X → Within (n + d) (raised d X)
 raised_within d n X w i h = let p = and_parts (nat_le d i) (X (i - d)) h in let l = leb-true d i p.0 in let k = w (i - d) p.1 in omega arith
 
-raised_over : (d n : ℕ) (rs : List Rule) → All (Over n) rs → All (Over (n + d)) (map (raised_rule d) rs)
+raised_over : (d n : ℕ) (rs : List Rule) → AllByRecursion (Over n) rs → AllByRecursion (Over (n + d)) (map (raised_rule d) rs)
 raised_over d n [] h = tt
 raised_over d n (r ∷ rs) (o, h) = ((raised_within d n r.heads o.0, raised_within d n r.needs o.1, raised_within d n r.bars o.2), raised_over d n rs h)
 

@@ -1,7 +1,7 @@
 -- Selectors keep the limits. These are proofs, which stand here as those of `Limits` do.
 use Rattle.std.specs.Prelude.{◌≡◌, ℕ, zero, suc, ◌+◌, ◌-◌, ◌*◌, ◌<◌, ◌≤◌, max, ◌∷◌, length, ◌==◌, nat_le, refl}
 use Rattle.std.proofs.Common.{ap, ⊎_elim, arith}
-use Rattle.std.specs.List.{AllByRecursion as All}
+use Rattle.std.specs.List.{AllByRecursion}
 use Rattle.std.proofs.ByRecursion.{All-append}
 use Rattle.std.proofs.lemmas.List.{length-append}
 use Rattle.std.proofs.lemmas.Bool.{leb-true, eqb-true, and_parts, or_cases, false≢true}
@@ -14,11 +14,11 @@ use Rattle.program.specs.declared.selector.Selector.{Selector}
 exclusion_over : (n i j : ℕ) → i < n → j < n → Over n (exclusion i j)
 exclusion_over n i j l m = (λ a h. absurd (false≢true h), λ a h. ⊎_elim (λ t. let e = eqb-true a i t in omega arith) (λ t. let e = eqb-true a j t in omega arith) (or_cases (a == i) (a == j) h), λ a h. absurd (false≢true h))
 
-exclusions_of_over : (n i j m : ℕ) → i < n → j + m ≤ n → All (Over n) (exclusions_of i j m)
+exclusions_of_over : (n i j m : ℕ) → i < n → j + m ≤ n → AllByRecursion (Over n) (exclusions_of i j m)
 exclusions_of_over n i j zero l k = tt
 exclusions_of_over n i j (suc m) l k = (exclusion_over n i j l (omega arith), exclusions_of_over n i (suc j) m l (omega arith))
 
-exclusions_over : (n i m : ℕ) → i + m ≤ n → All (Over n) (exclusions i m)
+exclusions_over : (n i m : ℕ) → i + m ≤ n → AllByRecursion (Over n) (exclusions i m)
 exclusions_over n i zero l = tt
 exclusions_over n i (suc m) l = All-append (Over n) (exclusions_of i (suc i) m) (exclusions (suc i) m) (exclusions_of_over n i (suc i) m (omega arith) (omega arith)) (exclusions_over n (suc i) m (omega arith))
 

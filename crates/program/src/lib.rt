@@ -1,4 +1,6 @@
 //! Rules, and the sources that they come from.
+#![tactic(auto)]
+
 pub mod lent;
 pub mod limits;
 pub mod load;

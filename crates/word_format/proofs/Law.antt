@@ -1,6 +1,6 @@
 -- Words are lawful exactly when they are the writing of a program within the bounds, and that program is what they mean.
 use Rattle.std.proofs.Common.{◌≡◌, ℕ, suc, ◌+◌, ◌-◌, ◌^◌, ◌<◌, ◌≤◌, Bool, true, false, cond, ltb, ◌⊎◌, List, [], ◌∷◌, ◌++◌, map, length, get_or, take, Some, None, sym, refl, ap, ◌∙◌, subst, ap₂, inl, inr, ⊎_elim, append_assoc, zero-add, add-one, arith}
-use Rattle.std.specs.List.{flat_map, AllByRecursion as All}
+use Rattle.std.specs.List.{flat_map, AllByRecursion}
 use Rattle.std.proofs.ByRecursion.{All-append, All-get_or, All-from_get_or, All-weaker}
 use Rattle.std.proofs.lemmas.List.{length-map, get_or_past}
 use Rattle.std.proofs.lemmas.Bool.Decides.{nat_tests}
@@ -21,15 +21,15 @@ use Rattle.word_format.proofs.Numbers.{clear_none, none_clear, atom_below, same_
 use Rattle.word_format.proofs.Segments.{Clean, clean_from, clean_to, closed, closed_last, clean_ends, count_segments, AtomWord, Rest, Shape, shapes, join_segments}
 
 module _ (n : ℕ) (small : n ≤ 256) where
-  pub read_rules : (rs : List Rule) → All (Over n) rs → map rule_of (segments (flat_map (write_rule n) rs)) ≡ rs
+  pub read_rules : (rs : List Rule) → AllByRecursion (Over n) rs → map rule_of (segments (flat_map (write_rule n) rs)) ≡ rs
   read_rules rs over = ap (map rule_of) (segments_written n small rs) ∙ read-each rs over
     where
-      read-each : (rs : List Rule) → All (Over n) rs → map rule_of (map (write_rule n) rs) ≡ rs
+      read-each : (rs : List Rule) → AllByRecursion (Over n) rs → map rule_of (map (write_rule n) rs) ≡ rs
       read-each [] over = refl
       read-each (r ∷ rs) (o, over) = ap₂ (λ (x : Rule) (xs : List Rule). x ∷ xs) (read_rule n r small o) (read-each rs over)
 
   -- The words of rules after an end word are faultless.
-  clean-parts : (t rest : List ℕ) (p e : ℕ) → All (AtomWord n) t → Ascending ◌<◌ t → (is_end p ≡ true) ⊎ All (λ x. p < x) t → e < 1024 → Clean n end_word (e + 1) rest → Clean n p e (t ++ end_word ∷ rest)
+  clean-parts : (t rest : List ℕ) (p e : ℕ) → AllByRecursion (AtomWord n) t → Ascending ◌<◌ t → (is_end p ≡ true) ⊎ AllByRecursion (λ x. p < x) t → e < 1024 → Clean n end_word (e + 1) rest → Clean n p e (t ++ end_word ∷ rest)
   clean-parts [] rest p e a u after l c = (end_faultless n p e end_word refl refl l, c)
   clean-parts (w ∷ t) rest p e (aw, a) (lt, u) after l c = (
     atom_faultless n p e w aw.0 aw.1 small (⊎_elim (λ q. end_follows p w q) (λ m. lt_follows p w m.0 aw.0) after),
@@ -53,24 +53,24 @@ module _ (n : ℕ) (small : n ≤ 256) where
       subst (λ (x : List ℕ). closed p x ≡ true) (sym (append_assoc (parts n r) (end_word ∷ []) (flat_map (write_rule n) rs)) ∙ ap (λ (x : List ℕ). x ++ flat_map (write_rule n) rs) (sym (write_parts n r)))
       (closed_parts (parts n r) (flat_map (write_rule n) rs) p (closed_rules rs end_word refl))
 
-  pub small_rules : (rs : List Rule) → All (λ w. w < 2 ^ 32) (flat_map (write_rule n) rs)
+  pub small_rules : (rs : List Rule) → AllByRecursion (λ w. w < 2 ^ 32) (flat_map (write_rule n) rs)
   small_rules [] = tt
   small_rules (r ∷ rs) =
       All-append (λ w. w < 2 ^ 32) (write_rule n r) (flat_map (write_rule n) rs)
-      (subst (All (λ w. w < 2 ^ 32)) (sym (write_parts n r)) (All-append (λ w. w < 2 ^ 32) (parts n r) (end_word ∷ []) (All-weaker (AtomWord n) (λ w. w < 2 ^ 32) (λ w a. let b = atom_below w a.0 in omega arith) (parts n r) (parts_atoms n r small)) (omega arith, tt)))
+      (subst (AllByRecursion (λ w. w < 2 ^ 32)) (sym (write_parts n r)) (All-append (λ w. w < 2 ^ 32) (parts n r) (end_word ∷ []) (All-weaker (AtomWord n) (λ w. w < 2 ^ 32) (λ w a. let b = atom_below w a.0 in omega arith) (parts n r) (parts_atoms n r small)) (omega arith, tt)))
       (small_rules rs)
 
   -- All the rules, written back.
-  pub write_all : (ss : List (List ℕ)) → All (Rest n end_word) ss → flat_map (write_rule n) (map rule_of ss) ≡ flat_map (λ (s : List ℕ). s) ss
+  pub write_all : (ss : List (List ℕ)) → AllByRecursion (Rest n end_word) ss → flat_map (write_rule n) (map rule_of ss) ≡ flat_map (λ (s : List ℕ). s) ss
   write_all [] h = refl
   write_all (s ∷ ss) (r, h) = ap₂ (λ (x y : List ℕ). x ++ y) (write_back n small s r).0 (write_all ss h)
 
-  pub rules_over : (ss : List (List ℕ)) → All (Rest n end_word) ss → All (Over n) (map rule_of ss)
+  pub rules_over : (ss : List (List ℕ)) → AllByRecursion (Rest n end_word) ss → AllByRecursion (Over n) (map rule_of ss)
   rules_over [] h = tt
   rules_over (s ∷ ss) (r, h) = ((write_back n small s r).1, rules_over ss h)
 
 -- a list whose every word is small
-small_at : (ws : List ℕ) → All (λ w. w < 2 ^ 32) ws → (i : ℕ) → get_or ws i 0 < 2 ^ 32
+small_at : (ws : List ℕ) → AllByRecursion (λ w. w < 2 ^ 32) ws → (i : ℕ) → get_or ws i 0 < 2 ^ 32
 small_at ws a i = ⊎_elim (λ (l : i < length ws). All-get_or (λ w. w < 2 ^ 32) ws i 0 l a) (λ (l : length ws ≤ i). let e = get_or_past ws i 0 l in omega arith) (cases_lt i (length ws))
 
 -- what the front of lawful words tells
@@ -119,7 +119,7 @@ write_meaning (h ∷ b) law = (
     small : (i : ℕ) → get_or (h ∷ b) i 0 < 2 ^ 32
     small = law.3
 
-    shape : (ss : List (List ℕ)) → Shape (number_of h) h ss → All (Rest (number_of h) end_word) ss
+    shape : (ss : List (List ℕ)) → Shape (number_of h) h ss → AllByRecursion (Rest (number_of h) end_word) ss
     shape [] s = tt
     shape (s ∷ ss) (r, rs) = (after-end s r, rs)
       where
@@ -129,7 +129,7 @@ write_meaning (h ∷ b) law = (
         after-end (w ∷ s) (inl e) = inl e
         after-end (w ∷ s) (inr (a, after, r)) = inr (a, inl refl, r)
 
-    rests : All (Rest (number_of h) end_word) (segments b)
+    rests : AllByRecursion (Rest (number_of h) end_word) (segments b)
     rests = shape (segments b) (shapes (number_of h) h 0 b clean cl (All-from_get_or (λ w. w < 2 ^ 32) b 0 (λ i l. small (suc i))))
 
     header : word_of End (number_of h) ≡ h

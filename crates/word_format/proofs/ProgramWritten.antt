@@ -1,6 +1,6 @@
 -- The parts of a written program: one for each rule, each with its start.
 use Rattle.std.proofs.Common.{◌≡◌, ℕ, zero, suc, ◌+◌, ◌*◌, ◌<◌, ◌≤◌, Bool, true, false, cond, List, [], ◌∷◌, ◌++◌, map, length, get_or, sym, refl, ap, ◌∙◌, ap₂, append_assoc, add-one, arith}
-use Rattle.std.specs.List.{flat_map, AllByRecursion as All}
+use Rattle.std.specs.List.{flat_map, AllByRecursion}
 use Rattle.std.proofs.lemmas.List.{length-append, length-map, get_or-map}
 use Rattle.atoms.specs.Sets.{Atoms}
 use Rattle.program.specs.Programs.{Rule, no_rule, rule_at, Program, Limited}
@@ -37,7 +37,7 @@ module _ (n : ℕ) (small : n ≤ 256) where
       ap (λ (x : List ℕ). segments (x ++ flat_map (write_rule n) rs)) (write_parts n r) ∙ ap segments (append_assoc (parts n r) (end_word ∷ []) (flat_map (write_rule n) rs))
       ∙ segments_cons n (parts n r) (flat_map (write_rule n) rs) (parts_atoms n r small) refl ∙ ap₂ (λ (x : List ℕ) (xs : List (List ℕ)). x ∷ xs) (sym (write_parts n r)) (segments_written rs)
 
-  past-parts : (t rest : List ℕ) (i : ℕ) → All (AtomWord n) t → past_ends i (t ++ end_word ∷ rest) ≡ (i + (length t + 1)) ∷ past_ends (i + (length t + 1)) rest
+  past-parts : (t rest : List ℕ) (i : ℕ) → AllByRecursion (AtomWord n) t → past_ends i (t ++ end_word ∷ rest) ≡ (i + (length t + 1)) ∷ past_ends (i + (length t + 1)) rest
   past-parts [] rest i a = refl
   past-parts (w ∷ t) rest i ((ew, lw), a) = let e : i + 1 + (length t + 1) ≡ i + (suc (length t) + 1) = omega arith in rw ew (past-parts t rest (i + 1) a ∙ ap (λ (x : ℕ). x ∷ past_ends x rest) e)
 

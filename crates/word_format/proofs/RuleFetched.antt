@@ -1,6 +1,6 @@
 -- The words of rule k, and the rule that they spell.
 use Rattle.std.proofs.Common.{◌≡◌, ℕ, ◌+◌, ◌-◌, ◌<◌, ◌≤◌, Bool, true, false, cond, ltb, List, [], ◌∷◌, length, get_or, take, drop, sym, refl, ap, ◌∙◌, subst, ⊎_elim, add-one, arith}
-use Rattle.std.specs.List.{AllByRecursion as All}
+use Rattle.std.specs.List.{AllByRecursion}
 use Rattle.std.proofs.ByRecursion.{All-get_or, All-from_get_or}
 use Rattle.std.proofs.lemmas.List.{get_or-map, get_or_past, length-map}
 use Rattle.std.proofs.lemmas.Bool.{both_ways, cases_lt, lt-ltb}
@@ -18,7 +18,7 @@ use Rattle.word_format.proofs.Numbers.{clear_none, fault_atom}
 abbrev pub Spells : ℕ → Type 0
 Spells w = is_end w ≡ false → number_of w < 256
 
-spells_body : (h : ℕ) (b : List ℕ) → Lawful (h ∷ b) → number_of h ≤ 256 → All Spells b
+spells_body : (h : ℕ) (b : List ℕ) → Lawful (h ∷ b) → number_of h ≤ 256 → AllByRecursion Spells b
 spells_body h b law small =
     All-from_get_or Spells b 0
     (λ i l e.
@@ -28,16 +28,16 @@ spells_body h b law small =
     omega arith)
 
 -- what holds of every word holds of the words of every part
-segments_all : (P : ℕ → Type 0) (b : List ℕ) → All P b → All (All P) (segments b)
+segments_all : (P : ℕ → Type 0) (b : List ℕ) → AllByRecursion P b → AllByRecursion (AllByRecursion P) (segments b)
 segments_all P [] a = tt
 segments_all P (w ∷ b) (p, a) = go (is_end w) (segments b) (segments_all P b a)
   where
-    go : (t : Bool) (ss : List (List ℕ)) → All (All P) ss → All (All P) (cond t ((w ∷ []) ∷ ss) (onto w ss))
+    go : (t : Bool) (ss : List (List ℕ)) → AllByRecursion (AllByRecursion P) ss → AllByRecursion (AllByRecursion P) (cond t ((w ∷ []) ∷ ss) (onto w ss))
     go true ss h = ((p, tt), h)
     go false [] h = tt
     go false (s ∷ ss) (q, h) = ((p, q), h)
 
-spells_at : (xs : List ℕ) → All Spells xs → (i : ℕ) → Spells (get_or xs i 0)
+spells_at : (xs : List ℕ) → AllByRecursion Spells xs → (i : ℕ) → Spells (get_or xs i 0)
 spells_at xs a i = ⊎_elim (λ (l : i < length xs). All-get_or Spells xs i 0 l a) (λ (l : length xs ≤ i). subst Spells (sym (get_or_past xs i 0 l)) (λ e. omega arith)) (cases_lt i (length xs))
 
 pub spells : (ws vs : List ℕ) → Lawful ws → (meaning ws).atoms ≤ 256 → (k from to : ℕ) → Spans ws k from to → vs ≡ ws → (i : ℕ) → Spells (get_or (take (to - from) (drop from vs)) i 0)
@@ -45,7 +45,7 @@ spells [] vs law small k from to span e i = absurd (both_ways true law.0 refl)
 spells (h ∷ b) vs law small k from to span e i =
     let all = segments_all Spells b (spells_body h b law small) in
     let m = length-map (segments b) rule_of in
-    let part : All Spells (rule_words (h ∷ b) k) = All-get_or (All Spells) (segments b) k [] (let l = span.some in omega arith) all in
+    let part : AllByRecursion Spells (rule_words (h ∷ b) k) = All-get_or (AllByRecursion Spells) (segments b) k [] (let l = span.some in omega arith) all in
     subst (λ (xs : List ℕ). Spells (get_or xs i 0)) (span.words ∙ ap (λ (xs : List ℕ). take (to - from) (drop from xs)) (sym e)) (spells_at (rule_words (h ∷ b) k) part i)
 
 -- what the source answers of a rule that is there

@@ -1,7 +1,7 @@
 -- The words of one rule: written and read back, and read and written back.
 use Rattle.std.proofs.Common.{◌≡◌, ℕ, ◌+◌, ◌<◌, ◌≤◌, true, ◌⊎◌, List, [], ◌∷◌, ◌++◌, sym, refl, ap, ◌∙◌, subst, ap₂, inl, inr, ⊎_elim, append_assoc, arith}
 use mathlib.Core.Path.{fun_ext}
-use Rattle.std.specs.List.{ContainsAt as Has, AllByRecursion as All}
+use Rattle.std.specs.List.{ContainsAt as Has, AllByRecursion}
 use Rattle.std.proofs.lemmas.Bool.{ne_eqb, eqb-false}
 use Rattle.atoms.specs.Sets.{Atoms, none, Within, Ascending}
 use Rattle.word_format.specs.declared.word.Kind.{Kind}
@@ -58,7 +58,7 @@ module _ (n : ℕ) (r : Rule) where
       (ascending_append ◌<◌ (words_of Need r.needs n) (words_of Bar r.bars n) (words_up Need r.needs n) (words_up Bar r.bars n) (before Need Bar (omega arith) small))
       (λ x y h m. ⊎_elim (before Head Need (omega arith) small x y h) (before Head Bar (omega arith) small x y h) (has_append_cases (words_of Need r.needs n) (words_of Bar r.bars n) y m))
 
-  pub parts_atoms : n ≤ 256 → All (AtomWord n) (parts n r)
+  pub parts_atoms : n ≤ 256 → AllByRecursion (AtomWord n) (parts n r)
   parts_atoms small = all_from_has (AtomWord n) (parts n r) (λ x h. atom x (from_parts x h))
     where
       atom : (x : ℕ) → PartWord n r x → AtomWord n x
@@ -98,7 +98,7 @@ part_holds End s l = absurd (omega arith)
 pub write_back : (n : ℕ) → n ≤ 256 → (s : List ℕ) → Rest n end_word s → (write_rule n (rule_of s) ≡ s) × Over n (rule_of s)
 write_back n small s rest = go (fronts n end_word s rest)
   where
-    go : (t : List ℕ) × (s ≡ t ++ end_word ∷ []) × All (AtomWord n) t × Ascending ◌<◌ t × ((is_end end_word ≡ true) ⊎ All (λ x. end_word < x) t) → (write_rule n (rule_of s) ≡ s) × Over n (rule_of s)
+    go : (t : List ℕ) × (s ≡ t ++ end_word ∷ []) × AllByRecursion (AtomWord n) t × Ascending ◌<◌ t × ((is_end end_word ≡ true) ⊎ AllByRecursion (λ x. end_word < x) t) → (write_rule n (rule_of s) ≡ s) × Over n (rule_of s)
     go (t, e, atoms, up, _) = (write_parts n (rule_of s) ∙ ap (λ (x : List ℕ). x ++ end_word ∷ []) same ∙ sym e, (within Head (omega arith), within Need (omega arith), within Bar (omega arith)))
       where
         -- a held atom stands in a word of t

@@ -1,6 +1,6 @@
 -- Faultless words fall into parts, one for each rule, that rise and end in the end word.
 use Rattle.std.proofs.Common.{◌≡◌, ℕ, zero, suc, ◌+◌, ◌^◌, ◌<◌, ◌≤◌, Bool, true, false, cond, ◌⊎◌, List, [], ◌∷◌, ◌++◌, length, get_or, take, None, sym, refl, ap, ◌∙◌, subst, ap₂, inl, inr, ⊎_elim, add-zero, add_assoc, arith}
-use Rattle.std.specs.List.{flat_map, AllByRecursion as All}
+use Rattle.std.specs.List.{flat_map, AllByRecursion}
 use Rattle.std.proofs.ByRecursion.{All-weaker}
 use Rattle.std.proofs.lemmas.Bool.{both_ways}
 use Rattle.word_format.specs.Words.{number_of, is_end}
@@ -64,9 +64,9 @@ Rest n p (w ∷ ws) = ((w ≡ end_word) × (ws ≡ [])) ⊎ (AtomWord n w × ((i
 
 abbrev pub Shape : ℕ → ℕ → List (List ℕ) → Type 0
 Shape n p [] = is_end p ≡ true
-Shape n p (s ∷ ss) = Rest n p s × All (Rest n end_word) ss
+Shape n p (s ∷ ss) = Rest n p s × AllByRecursion (Rest n end_word) ss
 
-pub shapes : (n p e : ℕ) (b : List ℕ) → Clean n p e b → closed p b ≡ true → All (λ w. w < 2 ^ 32) b → Shape n p (segments b)
+pub shapes : (n p e : ℕ) (b : List ℕ) → Clean n p e b → closed p b ≡ true → AllByRecursion (λ w. w < 2 ^ 32) b → Shape n p (segments b)
 shapes n p e [] c cl small = cl
 shapes n p e (w ∷ b) (f, c) cl (lw, small) = go (is_end w) refl (segments b) (shapes n w (e + cond (is_end w) 1 0) b c cl small)
   where
@@ -74,7 +74,7 @@ shapes n p e (w ∷ b) (f, c) cl (lw, small) = go (is_end w) refl (segments b) (
     after true t ew = inl t
     after false t ew = inr (follows_lt p w t ew (fault_atom n p e w ew f).1)
 
-    all : (ss : List (List ℕ)) → w ≡ end_word → Shape n w ss → All (Rest n end_word) ss
+    all : (ss : List (List ℕ)) → w ≡ end_word → Shape n w ss → AllByRecursion (Rest n end_word) ss
     all [] ew h = tt
     all (s ∷ ss) ew (r, h) = (subst (λ (x : ℕ). Rest n x s) ew r, h)
 
@@ -103,13 +103,13 @@ join_segments p (w ∷ b) c = go (is_end w) refl (segments b) refl (join_segment
     go false t (s ∷ ss) q ih = rw (t, q) (ap (λ (x : List ℕ). w ∷ x) (rw q at ih))
 
 -- the words before the end word: they rise, and are all of a rule's parts
-pub fronts : (n p : ℕ) (s : List ℕ) → Rest n p s → (t : List ℕ) × (s ≡ t ++ end_word ∷ []) × All (AtomWord n) t × Ascending ◌<◌ t × ((is_end p ≡ true) ⊎ All (λ x. p < x) t)
+pub fronts : (n p : ℕ) (s : List ℕ) → Rest n p s → (t : List ℕ) × (s ≡ t ++ end_word ∷ []) × AllByRecursion (AtomWord n) t × Ascending ◌<◌ t × ((is_end p ≡ true) ⊎ AllByRecursion (λ x. p < x) t)
 fronts n p [] h = absurd h
 fronts n p (w ∷ s) (inl (e, q)) = ([], ap₂ (λ (x : ℕ) (y : List ℕ). x ∷ y) e q, tt, tt, inr tt)
 fronts n p (w ∷ s) (inr (a, after, r)) = go (fronts n w s r)
   where
-    go : (t : List ℕ) × (s ≡ t ++ end_word ∷ []) × All (AtomWord n) t × Ascending ◌<◌ t × ((is_end w ≡ true) ⊎ All (λ x. w < x) t)
-        → (t : List ℕ) × (w ∷ s ≡ t ++ end_word ∷ []) × All (AtomWord n) t × Ascending ◌<◌ t × ((is_end p ≡ true) ⊎ All (λ x. p < x) t)
+    go : (t : List ℕ) × (s ≡ t ++ end_word ∷ []) × AllByRecursion (AtomWord n) t × Ascending ◌<◌ t × ((is_end w ≡ true) ⊎ AllByRecursion (λ x. w < x) t)
+        → (t : List ℕ) × (w ∷ s ≡ t ++ end_word ∷ []) × AllByRecursion (AtomWord n) t × Ascending ◌<◌ t × ((is_end p ≡ true) ⊎ AllByRecursion (λ x. p < x) t)
     go (t, q, each, u, inl e) = absurd (both_ways (is_end w) a.0 e)
     go (t, q, each, u, inr lt) = (
       w ∷ t,
@@ -120,6 +120,6 @@ fronts n p (w ∷ s) (inr (a, after, r)) = go (fronts n w s r)
     )
 
 -- the parts of written rules
-pub segments_cons : (n : ℕ) (t rest : List ℕ) → All (AtomWord n) t → is_end end_word ≡ true → segments (t ++ end_word ∷ rest) ≡ (t ++ end_word ∷ []) ∷ segments rest
+pub segments_cons : (n : ℕ) (t rest : List ℕ) → AllByRecursion (AtomWord n) t → is_end end_word ≡ true → segments (t ++ end_word ∷ rest) ≡ (t ++ end_word ∷ []) ∷ segments rest
 segments_cons n [] rest a e = refl
 segments_cons n (w ∷ t) rest ((ew, lw), a) e = rw (ew, segments_cons n t rest a e)

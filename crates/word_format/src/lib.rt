@@ -1,4 +1,6 @@
 //! Programs in the word format.
+#![tactic(auto)]
+
 pub mod bytes;
 pub mod check;
 pub mod shown;

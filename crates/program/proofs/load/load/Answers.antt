@@ -10,4 +10,4 @@ invariant_of-result g c =
     let limits =
     gathered_limits m (g.S.RuleSource.small c.args.source.now) (omega arith) c.atom_count.result rs c.atom_count.ensures c.in_ok-rules.ensures
     in
-    (limits.0, (limits.1, (limits.2, tt)))
+    record { few_atoms = limits.0; few_rules = limits.1; over = limits.2 }
