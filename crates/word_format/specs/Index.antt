@@ -1,5 +1,5 @@
 -- Where the rules begin.
-use Rattle.std.specs.Prelude.{◌≡◌, ℕ, ◌+◌, ◌-◌, ◌<◌, ◌≤◌, cond, List, [], ◌∷◌, length, drop, slice_index, slice_index_or, slice_range}
+use Rattle.std.specs.Prelude.{◌≡◌, ℕ, ◌+◌, ◌<◌, ◌≤◌, cond, List, [], ◌∷◌, length, drop, slice_index, slice_index_or, slice_range}
 use Rattle.word_format.specs.Words.{is_end}
 use Rattle.word_format.specs.Reading.{segments, meaning}
 

@@ -32,7 +32,7 @@ impl WordProgram {
         ensures { Opens words.now self.old result self.new }
     {
         check(words)?;
-        let heap = self.words.allocator();
+        let heap = *self.words.allocator();
         let begins = index(heap, words)?;
         let words = Vec::from_slice(heap, words)?;
         *self = WordProgram::with_index(words, begins);
@@ -52,7 +52,7 @@ impl WordProgram {
     pub fn open_bytes(&mut self, bytes: &[u8]) -> Result<(), Refusal>
         ensures { OpensBytes bytes.now self.old result self.new }
     {
-        let words = words_from_bytes(self.words.allocator(), bytes)?;
+        let words = words_from_bytes(*self.words.allocator(), bytes)?;
         self.open(words.as_slice())
     }
 }

@@ -2,7 +2,7 @@ use Rattle.std.proofs.Common.{ℕ, cond, List, ◌++◌, string_bytes, decimal, 
 use Rattle.account.specs.Lines.{atoms_text, numbers}
 use Rattle.account.proofs.Texts.{atoms_step, atoms_skip, atoms_end}
 use Rattle.account.proofs.text.push_atoms.Goals as goal
-use Rattle.account.proofs.text.push_atoms.Goals.{then-is_kind+in_ok-push_atom, else-is-kind}
+use Rattle.account.proofs.text.push_atoms.Goals.{then-is_kind+in_ok-push_atom, else-is_kind}
 
 pub loop-word-preserved : goal.loop-word-preserved
 loop-word-preserved c =
@@ -20,7 +20,7 @@ loop-word-preserved c =
           (sym c.is_kind.ensures ∙ w.if-is_kind.true) w.number_of.ensures
           (w.in_ok-push_atom.ensures ∙ ap (λ (x : List ℕ). before ++ (x ++ decimal w.number_of.result.0)) w.choose.ensures) c.loop-word.invariant
           )
-      | else-is-kind w ↦
+      | else-is_kind w ↦
           rw (w.text-is, w.fresh-is) (atoms_skip k ws i lead later before all c.loop-word-test.true (sym c.is_kind.ensures ∙ w.if-is_kind.false) c.loop-word.invariant)
     ]
 
