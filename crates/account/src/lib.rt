@@ -3,4 +3,5 @@
 
 pub mod inspect;
 pub mod report;
+pub mod table_report;
 pub mod text;

@@ -1,88 +1,73 @@
-// The account of a program.
-ghost use Rattle.std.specs.Prelude.{◌≡◌, ◌+◌, ◌≤◌, ◌++◌, drop, if◌then◌else◌, string_bytes, MatchResult};
-ghost use Rattle.account.specs.Lines.{account_of, lines_of, summary, summary_of};
-ghost use Rattle.account.specs.Tallies.{Counted};
-ghost use Rattle.program.specs.Tables.{tabled};
+// The account of a word program.
+ghost use Rattle.account.specs.Lines.{account_of, form_count, lines_of, summary, summary_of};
+ghost use Rattle.word_format.specs.Bytes.{RefusedBytes, bytes_fault, words_of_bytes};
+ghost use Rattle.word_format.specs.Checks.{Clear, Lawful};
+ghost use Rattle.word_format.specs.Held.{contents};
 ghost use Rattle.word_format.specs.Reading.{segments};
-ghost use Rattle.word_format.specs.Showing.{same_form};
-ghost use Rattle.word_format.specs.Writing.{written};
-ghost use Rattle.word_format.specs.declared.shown.Form.TheVariants as forms;
+ghost use Rattle.word_format.specs.declared.shown.Form.TheVariants as form;
+ghost use Rattle.std.specs.Prelude.{◌≡◌, ◌⊎◌, ◌++◌, drop, string_bytes, MatchResult};
 
-use crate::text::push_line;
+use crate::text::push_shown;
 use program::refusal::Refusal;
-use program::table::RuleTable;
 use std::alloc::Global;
-use word_format::shown::{Form, form_of};
-use word_format::write::written_rule;
+use word_format::shown::Shown;
+use word_format::words::WordProgram;
 
 /// How many rules there are of each form.
 #[derive(Clone, Copy)]
-struct Counts {
-    facts: usize,
-    bodies: usize,
-    constraints: usize,
+pub struct Counts {
+    pub facts: usize,
+    pub bodies: usize,
+    pub constraints: usize,
 }
 
-/// The account of a program: the counts, and a line for each rule.
-pub fn account(heap: Global, table: &RuleTable) -> Result<String, Refusal>
-    ensures { MatchResult result (λ s. string_bytes s ≡ account_of (written (tabled table.now))) (λ e. e ≡ Refusal.OutOfMemory) }
+/// Counts the rules by their form.
+pub fn count_forms(program: &WordProgram) -> Counts
+    ensures facts { result.facts ≡ form_count form.Fact (segments (drop 1 (contents program.now))) }
+    ensures bodies { result.bodies ≡ form_count form.Rule (segments (drop 1 (contents program.now))) }
+    ensures constraints { result.constraints ≡ form_count form.Constraint (segments (drop 1 (contents program.now))) }
 {
-    let mut lines = String::new(heap);
-    let counts = push_lines(heap, &mut lines, table)?;
-    let mut text = summarize(heap, table, counts)?;
-    text.push_str(lines.as_str())?;
-    Ok(text)
-}
-
-/// The lines of all rules, and how many rules there are of each form.
-fn push_lines(heap: Global, text: &mut String, table: &RuleTable) -> Result<Counts, Refusal>
-    ensures { MatchResult result (λ c. (string_bytes text.new ≡ string_bytes text.old ++ lines_of (written (tabled table.now))) × Counted (segments (drop 1 (written (tabled table.now)))) c) (λ e. e ≡ Refusal.OutOfMemory) }
-{
-    let rules = table.rules();
-    let mut counts = Counts {
-        facts: 0,
-        bodies: 0,
-        constraints: 0,
-    };
-    let mut position = 1;
-    for k in 0..rules.len() {
-        let words = written_rule(heap, table.atom_count(), &rules[k])?;
-        let part = words.as_slice();
-        push_line(text, k, position, part)?;
-        counts = counts.with(form_of(part));
-        position += part.len();
-    }
-    Ok(counts)
-}
-
-impl Counts {
-    /// One rule more, of this form.
-    fn with(self, form: Form) -> Counts
-        requires { self.facts + self.bodies + self.constraints ≤ 1024 }
-        ensures facts { result.facts ≡ self.facts + (if same_form form forms.Fact then 1 else 0) }
-        ensures bodies { result.bodies ≡ self.bodies + (if same_form form forms.Rule then 1 else 0) }
-        ensures constraints { result.constraints ≡ self.constraints + (if same_form form forms.Constraint then 1 else 0) }
-    {
-        let mut counts = self;
-        match form {
-            Form::Fact => counts.facts += 1,
-            Form::Rule => counts.bodies += 1,
-            Form::Constraint => counts.constraints += 1,
+    let mut facts = 0;
+    let mut bodies = 0;
+    let mut constraints = 0;
+    for k in 0..program.rule_count() {
+        match program.show(k) {
+            Shown::Fact(..) => facts += 1,
+            Shown::Rule(..) => bodies += 1,
+            Shown::Constraint(..) => constraints += 1,
+            Shown::PastEnd => {}
         }
-        counts
+    }
+    Counts {
+        facts,
+        bodies,
+        constraints,
     }
 }
 
-/// The counts of a program as text.
-fn summarize(heap: Global, table: &RuleTable, counts: Counts) -> Result<String, Refusal>
-    requires { Counted (segments (drop 1 (written (tabled table.now)))) counts }
-    ensures { MatchResult result (λ s. string_bytes s ≡ summary_of (written (tabled table.now))) (λ e. e ≡ Refusal.OutOfMemory) }
+/// The whole account: the counts, and a line for each rule.
+pub fn account(heap: Global, program: &WordProgram) -> Result<String, Refusal>
+    ensures { MatchResult result (λ s. string_bytes s ≡ account_of (contents program.now)) (λ e. e ≡ Refusal.OutOfMemory) }
 {
-    let text = write_counts(heap, table.atom_count(), table.rules().len(), counts)?;
+    let mut text = summarize(heap, program)?;
+    push_lines(&mut text, program)?;
     Ok(text)
 }
 
-fn write_counts(heap: Global, atoms: usize, rules: usize, counts: Counts) -> Result<String, Refusal>
+fn summarize(heap: Global, program: &WordProgram) -> Result<String, Refusal>
+    ensures { MatchResult result (λ s. string_bytes s ≡ summary_of (contents program.now)) (λ e. e ≡ Refusal.OutOfMemory) }
+{
+    let counts = count_forms(program);
+    let text = write_counts(heap, program.atom_count(), program.rule_count(), counts)?;
+    Ok(text)
+}
+
+pub(crate) fn write_counts(
+    heap: Global,
+    atoms: usize,
+    rules: usize,
+    counts: Counts,
+) -> Result<String, Refusal>
     ensures { MatchResult result (λ s. string_bytes s ≡ summary atoms rules counts.facts counts.bodies counts.constraints) (λ e. e ≡ Refusal.OutOfMemory) }
 {
     let Counts {
@@ -93,5 +78,24 @@ fn write_counts(heap: Global, atoms: usize, rules: usize, counts: Counts) -> Res
     let text = format!(in heap;
         "atoms {atoms}\nrules {rules}: facts {facts}, with a body {bodies}, constraints {constraints}\n"
     )?;
+    Ok(text)
+}
+
+fn push_lines(text: &mut String, program: &WordProgram) -> Result<(), Refusal>
+    ensures { MatchResult result (λ _. string_bytes text.new ≡ string_bytes text.old ++ lines_of (contents program.now)) (λ e. e ≡ Refusal.OutOfMemory) }
+{
+    for k in 0..program.rule_count() {
+        push_shown(text, k, program.show(k))?;
+    }
+    Ok(())
+}
+
+/// The account of a file's bytes, or its refusal.
+pub fn inspect(heap: Global, bytes: &[u8]) -> Result<String, Refusal>
+    ensures { MatchResult result (λ s. Clear (bytes_fault bytes.now) × Lawful (words_of_bytes bytes.now) × (string_bytes s ≡ account_of (words_of_bytes bytes.now))) (λ e. RefusedBytes bytes.now e ⊎ (e ≡ Refusal.OutOfMemory)) }
+{
+    let mut program = WordProgram::new(heap)?;
+    program.open_bytes(bytes)?;
+    let text = account(heap, &program)?;
     Ok(text)
 }

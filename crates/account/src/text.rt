@@ -16,7 +16,7 @@ pub fn rule_line(heap: Global, k: usize, shown: Shown<'_>) -> Result<String, Ref
     Ok(text)
 }
 
-fn push_shown(text: &mut String, k: usize, shown: Shown<'_>) -> Result<(), Refusal>
+pub(crate) fn push_shown(text: &mut String, k: usize, shown: Shown<'_>) -> Result<(), Refusal>
     ensures { MatchResult result (λ _. string_bytes text.new ≡ string_bytes text.old ++ shown_line k shown.entry) (λ e. e ≡ Refusal.OutOfMemory) }
 {
     match shown {

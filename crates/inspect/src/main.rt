@@ -1,7 +1,7 @@
 // Reads a program's bytes from standard input, and prints the account of the pile that the arguments make of it, or the refusal.
 #![tactic(auto)]
 
-use account::inspect::inspect;
+use account::inspect::inspect_pile;
 use pile::arguments::read_steps;
 use pile::step::Step;
 use std::io::Read;
@@ -29,7 +29,7 @@ fn print_account(rt: &HostRuntime, steps: &[Step]) -> io::Result<()> {
     rt.stdin()
         .take(MAX_BYTES as u64 + 1)
         .read_to_end(&mut bytes)?;
-    match inspect(heap, bytes.as_slice(), steps) {
+    match inspect_pile(heap, bytes.as_slice(), steps) {
         Ok(text) => rt.print(text.as_str()),
         Err(refusal) => println!(rt; "{refusal}"),
     }

@@ -1,6 +1,6 @@
 // Piles, loaded, and proof-read.
 use crate::build::*;
-use account::inspect::inspect;
+use account::inspect::inspect_pile;
 use pile::assemble::assemble;
 use pile::step::Step;
 use program::load::{Loaded, load};
@@ -63,12 +63,12 @@ fn accounts_of_piles(rt: HostRuntime) -> Result<(), Fail> {
     let heap = rt.alloc();
     let bytes = [0xC0, 0, 0, 1, 0, 0, 0, 0, 0xC0, 0, 0, 0];
     let steps = [Step::Offset(1), Step::Select(Selector::new(1, 2, 3)?)];
-    let text = inspect(heap, &bytes, &steps)?;
+    let text = inspect_pile(heap, &bytes, &steps)?;
     assert!(rt;
         text.as_str()
             == "atoms 4\nrules 3: facts 1, with a body 1, constraints 1\nrule 0 at 1: 1 <-\nrule 1 at 3: 2 | 3 <- 1\nrule 2 at 7: <- 2, 3\n"
     );
-    match inspect(heap, &bytes, &[Step::Offset(256)]) {
+    match inspect_pile(heap, &bytes, &[Step::Offset(256)]) {
         Ok(_) => Err(Fail::new("an overfull pile was accounted for")),
         Err(refusal) => {
             assert!(rt; refusal.to_string(heap)?.as_str() == "refused 21");

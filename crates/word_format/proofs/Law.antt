@@ -8,7 +8,6 @@ use Rattle.std.proofs.lemmas.Bool.{both_ways, cases_lt, le-ltb, ltb-false}
 use Rattle.word_format.specs.declared.word.Kind.{Kind}
 use Rattle.word_format.specs.declared.word.Kind.TheVariants.{End}
 use Rattle.program.specs.declared.refusal.Refusal.{Refusal}
-use Rattle.program.specs.Limits.{over_each, over_all}
 use Rattle.word_format.specs.Words.{kind_of, number_of, rank, is_end}
 use Rattle.word_format.specs.Checks.{ends, fault, fault_after, front_fault, Lawful}
 use Rattle.program.specs.Programs.{Rule, Over, Program}
@@ -97,12 +96,10 @@ pub write_meaning : (ws : List ℕ) → Lawful ws → InBounds (meaning ws) × (
 write_meaning [] law = absurd (both_ways true law.0 refl)
 write_meaning (h ∷ b) law = (
   record {
-    limits = (
-      front.2,
-      let e = length-map (segments b) rule_of in let c = count_segments b h cl in let m = clean_ends (number_of h) h 0 b clean (omega arith) in omega arith,
-      over_each (number_of h) (map rule_of (segments b)) (rules_over (number_of h) front.2 (segments b) rests),
-    );
+    few_atoms = front.2;
+    few_rules = let e = length-map (segments b) rule_of in let c = count_segments b h cl in let m = clean_ends (number_of h) h 0 b clean (omega arith) in omega arith;
     few_words = let e = ap length same in let f = front.0 in omega arith;
+    over = rules_over (number_of h) front.2 (segments b) rests;
   },
   same,
 )
@@ -143,15 +140,15 @@ write_meaning (h ∷ b) law = (
 
 -- A program within the bounds is what its writing means.
 pub meaning_written : (P : Program) → InBounds P → meaning (written P) ≡ P
-meaning_written P b = λ t. record { atoms = number_of_word End P.atoms (let l = b.limits.0 in omega arith) t; rules = read_rules P.atoms b.limits.0 P.rules (over_all P.atoms P.rules b.limits.2) t }
+meaning_written P b = λ t. record { atoms = number_of_word End P.atoms (let l = b.few_atoms in omega arith) t; rules = read_rules P.atoms b.few_atoms P.rules b.over t }
 
 -- The writing of a program within the bounds is lawful.
 pub lawful_written : (P : Program) → InBounds P → Lawful (written P)
 lawful_written P b = (
   none_clear (front_fault (h ∷ body)) front,
   λ i l. none_clear (fault_after (h ∷ body) i) (ap₂ (λ (e w : ℕ). fault (number_of h) (get_or (h ∷ body) i 0) e w) (sym (zero-add (ends (take i body)))) (ap (λ (k : ℕ). get_or (h ∷ body) k 0) (add-one i)) ∙ clean_to (number_of h) h 0 body clean i (omega arith)),
-  let e : length (h ∷ body) - 1 ≡ length body = omega arith in ap (λ (k : ℕ). is_end (get_or (h ∷ body) k 0)) e ∙ sym (closed_last h body) ∙ closed_rules n b.limits.0 P.rules h end,
-  small_at (h ∷ body) (word_below End n (omega (arith, b.limits.0)), small_rules n b.limits.0 P.rules),
+  let e : length (h ∷ body) - 1 ≡ length body = omega arith in ap (λ (k : ℕ). is_end (get_or (h ∷ body) k 0)) e ∙ sym (closed_last h body) ∙ closed_rules n b.few_atoms P.rules h end,
+  small_at (h ∷ body) (word_below End n (omega (arith, b.few_atoms)), small_rules n b.few_atoms P.rules),
 )
   where
     n : ℕ
@@ -164,13 +161,13 @@ lawful_written P b = (
     body = flat_map (write_rule n) P.rules
 
     number : number_of h ≡ n
-    number = number_of_word End n (omega (arith, b.limits.0))
+    number = number_of_word End n (omega (arith, b.few_atoms))
 
     end : is_end h ≡ true
-    end = is_kind_word End End n (omega (arith, b.limits.0))
+    end = is_kind_word End End n (omega (arith, b.few_atoms))
 
     clean : Clean (number_of h) h 0 body
-    clean = subst (λ (m : ℕ). Clean m h 0 body) (sym number) (clean_rules n b.limits.0 P.rules h 0 end (omega (arith, b.limits.1)))
+    clean = subst (λ (m : ℕ). Clean m h 0 body) (sym number) (clean_rules n b.few_atoms P.rules h 0 end (omega (arith, b.few_rules)))
 
     front : front_fault (h ∷ body) ≡ None
-    front = let few : ltb 256 (number_of h) ≡ false = le-ltb 256 (number_of h) (omega (arith, number, b.limits.0)) in let short : ltb 16384 (length (h ∷ body)) ≡ false = le-ltb 16384 (length (h ∷ body)) b.few_words in rw (short, end, few)
+    front = let few : ltb 256 (number_of h) ≡ false = le-ltb 256 (number_of h) (omega (arith, number, b.few_atoms)) in let short : ltb 16384 (length (h ∷ body)) ≡ false = le-ltb 16384 (length (h ∷ body)) b.few_words in rw (short, end, few)

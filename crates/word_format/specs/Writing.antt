@@ -1,12 +1,12 @@
 -- How a program is written in words, and which programs can be.
 use Rattle.std.specs.Prelude.{◌≡◌, ℕ, zero, suc, ◌+◌, ◌*◌, ◌^◌, ◌≤◌, cond, List, [], ◌∷◌, ◌++◌, length, Ok, Err, Result, ◌≢◌}
-use Rattle.std.specs.List.{flat_map}
+use Rattle.std.specs.List.{flat_map, AllByRecursion}
 use Rattle.atoms.specs.Sets.{Atoms}
 use Rattle.program.specs.declared.refusal.Refusal.{Refusal}
 use Rattle.word_format.specs.declared.word.Kind.{Kind}
 use Rattle.word_format.specs.declared.word.Kind.TheVariants.{Head, Need, Bar, End}
 use Rattle.word_format.specs.Words.{rank}
-use Rattle.program.specs.Programs.{Rule, Program, Limited}
+use Rattle.program.specs.Programs.{Rule, Over, Program}
 use Rattle.word_format.specs.Reading.{meaning}
 
 -- the word of this kind and number
@@ -28,8 +28,10 @@ written P = word_of End P.atoms ∷ flat_map (write_rule P.atoms) P.rules
 
 -- the programs that have a writing
 pub record InBounds (P : Program) : Type 0 where
-  pub limits : Limited P
+  pub few_atoms : P.atoms ≤ 256
+  pub few_rules : length P.rules ≤ 1024
   pub few_words : length (written P) ≤ 16384
+  pub over : AllByRecursion (Over P.atoms) P.rules
 
 -- Words are accepted exactly when they are the writing of a program within the bounds, and that program is what they mean.
 abbrev pub Reads : List ℕ → Result (Unit {0}) Refusal → Type 0

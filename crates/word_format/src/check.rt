@@ -12,7 +12,7 @@ use program::refusal::Refusal;
 /// The most words that a program may have.
 pub const MAX_WORDS: usize = 16_384;
 /// The most rules that a program may have, as the check counts them.
-const MAX_RULES: u32 = limits::MAX_RULES as u32;
+pub const MAX_RULES: u32 = limits::MAX_RULES as u32;
 
 /// Where in a program the next word stands: before the header, or after parts of a rule of these kinds.
 #[derive(Clone, Copy)]

@@ -6,7 +6,7 @@ use program::limits;
 use program::refusal::Refusal;
 
 /// The most atoms that a program may have, as the number of a word.
-pub(crate) const MAX_ATOMS: u32 = limits::MAX_ATOMS as u32;
+pub const MAX_ATOMS: u32 = limits::MAX_ATOMS as u32;
 
 #[derive(Clone, Copy, Debug, PartialEq, Eq)]
 pub enum Kind {

@@ -1,6 +1,5 @@
 // Every refusal, on the shortest words and at its boundary, and the order of the tests where two faults meet.
 use crate::build::*;
-use program::source::RuleSource;
 use std::test::Fail;
 use word_format::words::WordProgram;
 

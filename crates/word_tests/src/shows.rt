@@ -1,6 +1,6 @@
 // What is shown of each rule, and its line.
 use crate::build::*;
-use account::inspect::inspect;
+use account::report::inspect;
 use account::text::rule_line;
 use std::test::Fail;
 use word_format::shown::Shown;
@@ -92,7 +92,7 @@ fn lines(rt: HostRuntime) -> Result<(), Fail> {
     ];
     for (k, expected) in table.iter().enumerate() {
         let line = rule_line(heap, k, program.show(k))?;
-        check(line.as_str() == *expected)?;
+        assert!(rt; line.as_str() == *expected);
     }
     Ok(())
 }
@@ -101,13 +101,16 @@ fn lines(rt: HostRuntime) -> Result<(), Fail> {
 fn accounts(rt: HostRuntime) -> Result<(), Fail> {
     let heap = rt.alloc();
     let bytes = [0xC0, 0, 0, 2, 0, 0, 0, 0, 0, 0, 0, 1, 0xC0, 0, 0, 0];
-    let text = inspect(heap, &bytes, &[])?;
-    check(
+    let text = inspect(heap, &bytes)?;
+    assert!(rt;
         text.as_str()
-            == "atoms 2\nrules 1: facts 1, with a body 0, constraints 0\nrule 0 at 1: 0 | 1 <-\n",
-    )?;
-    match inspect(heap, &bytes[0..12], &[]) {
+            == "atoms 2\nrules 1: facts 1, with a body 0, constraints 0\nrule 0 at 1: 0 | 1 <-\n"
+    );
+    match inspect(heap, &bytes[0..12]) {
         Ok(_) => Err(Fail::new("an unfinished rule was accepted")),
-        Err(refusal) => check(refusal.to_string(heap)?.as_str() == "refused 16"),
+        Err(refusal) => {
+            assert!(rt; refusal.to_string(heap)?.as_str() == "refused 16");
+            Ok(())
+        }
     }
 }

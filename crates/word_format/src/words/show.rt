@@ -6,6 +6,7 @@ ghost use Rattle.word_format.specs.Showing.{Shows};
 
 use super::WordProgram;
 use crate::shown::{Form, Shown, form_of};
+use crate::word::number_of;
 
 /// From a rule's first word to just after its end word.
 #[derive(Clone, Copy)]
@@ -15,8 +16,22 @@ pub(super) struct Span {
 }
 
 impl WordProgram {
+    /// The number of atoms.
+    pub fn atom_count(&self) -> usize
+        ensures { result ≡ (program_of self.now).atoms }
+    {
+        number_of(self.words[0]).0 as usize
+    }
+
+    /// The number of rules.
+    pub fn rule_count(&self) -> usize
+        ensures { result ≡ length (program_of self.now).rules }
+    {
+        self.begin_count() - 1
+    }
+
     /// One more than the number of rules.
-    pub(super) fn begin_count(&self) -> usize
+    fn begin_count(&self) -> usize
         ensures { result ≡ length (program_of self.now).rules + 1 }
     {
         self.begins.len()
@@ -44,7 +59,7 @@ impl WordProgram {
     pub(super) fn span(&self, k: usize) -> Option<Span>
         ensures { MatchOption result (length (program_of self.now).rules ≤ k) (λ s. Spans (contents self.now) k s.from s.to) }
     {
-        if k >= self.begin_count() - 1 {
+        if k >= self.rule_count() {
             return None;
         }
         Some(Span {

@@ -21,11 +21,11 @@ impl RuleSource for WordProgram {
     ghost small = { λ p. (p.few_atoms, p.few_rules, p.over) };
 
     fn atom_count(&self) -> usize {
-        number_of(self.words[0]).0 as usize
+        WordProgram::atom_count(self)
     }
 
     fn rule_count(&self) -> usize {
-        self.begin_count() - 1
+        WordProgram::rule_count(self)
     }
 
     fn rule(&self, k: usize, place: &mut Rule) -> bool

@@ -1,12 +1,11 @@
-use Rattle.std.proofs.Common.{length, vec_items, string_bytes, sym, ap, ◌∙◌}
-use Rattle.std.proofs.lemmas.List.{length-map}
-use Rattle.program.specs.Rules.{as_rule}
-use Rattle.program.specs.Tables.{tabled, table_limits}
+use Rattle.std.proofs.Common.{string_bytes}
+use Rattle.word_format.specs.Held.{contents}
 use Rattle.account.proofs.Accounts.{summary_is}
 use Rattle.account.proofs.report.summarize.Goals as goal
 
 pub returns : goal.returns
 returns c =
-    let t = c.args.table.now in
-    summary_is (tabled t) (table_limits t) c.atom_count.result (length c.rules.result.now) c.args.counts (string_bytes c.in_ok-text.text)
-    c.in_ok-text.ensures c.atom_count.ensures (ap length c.rules.ensures ∙ sym (length-map (vec_items t.rules) as_rule)) c.requires
+    summary_is (contents c.args.program.now) c.atom_count.result c.rule_count.result c.count_forms-counts.result.facts
+    c.count_forms-counts.result.bodies c.count_forms-counts.result.constraints (string_bytes c.in_ok-text.text)
+    c.in_ok-text.ensures c.atom_count.ensures c.rule_count.ensures c.count_forms-counts.ensures.facts
+    c.count_forms-counts.ensures.bodies c.count_forms-counts.ensures.constraints
