@@ -91,6 +91,13 @@ cmp_is s t o h =
     one_rank (λ (s t : AtomSet). Precedes (has s) (has t)) (λ s. precedes_irreflexive (has s)) (λ s t u. precedes_transitive (has s) (has t) (has u))
     s t o (set_cmp s t) h (ranked s t)
 
+-- the answer from what holds, one lemma for each
+pub less_is : (s t : AtomSet) → Precedes (has s) (has t) → Less ≡ set_cmp s t
+less_is s t = cmp_is s t Less
+
+pub greater_is : (s t : AtomSet) → Precedes (has t) (has s) → Greater ≡ set_cmp s t
+greater_is s t = cmp_is s t Greater
+
 -- a test that tells whether two sets are the same answers what `==` does
 pub eq_is : (s t : AtomSet) (r : Bool) → Decides r (s ≡ t) → r ≡ eq_by_cmp set_cmp s t
 eq_is s t r d = one_answer r (eq_by_cmp set_cmp s t) d (to, from)

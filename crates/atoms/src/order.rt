@@ -52,6 +52,7 @@ impl Ord for AtomSet {
 
     ghost matches_eq = { λ x y. refl };
 
+    #[tactic(auto, using(crate::proofs::Ordered::less_is, crate::proofs::Ordered::greater_is))]
     fn cmp(&self, other: &AtomSet) -> Ordering
         ensures value { result ≡ set_cmp self.now other.now }
         ensures ranked { MatchOrdering result (Precedes (has self.now) (has other.now)) (self.now ≡ other.now) (Precedes (has other.now) (has self.now)) }
