@@ -1,6 +1,9 @@
 -- The laws of the order of sets, and of lists of sets in that order.
 use Rattle.std.specs.Prelude.{◌≡◌, ℕ, ◌<◌, ◌⊎◌, List, ◌++◌, length, slice_index_or}
 use Rattle.std.specs.List.{ContainsAt as Has, AllByRecursion}
+use Rattle.std.specs.Ordering.{MatchOrdering}
+use Rattle.atoms.specs.declared.AtomSet.{AtomSet}
+use Rattle.atoms.specs.Member.{has, set_cmp}
 use Rattle.atoms.specs.Sets.{Atoms, none, Within, Precedes, Rising, Lists, Position, UpTo, After, PositionWithin, NotAfter}
 
 pub record OrderLaws : Type 0 where
@@ -10,6 +13,10 @@ pub record OrderLaws : Type 0 where
   pub transitive : (X Y Z : Atoms) → Precedes X Y → Precedes Y Z → Precedes X Z
   -- two sets within n are equal, or one precedes the other
   pub total : (n : ℕ) (X Y : Atoms) → Within n X → Within n Y → (X ≡ Y) ⊎ (Precedes X Y ⊎ Precedes Y X)
+
+-- what the comparison answers of two values: which of them precedes, or that they are the same
+abbrev pub CmpLaw : Type 0
+CmpLaw = (s t : AtomSet) → MatchOrdering (set_cmp s t) (Precedes (has s) (has t)) (s ≡ t) (Precedes (has t) (has s))
 
 -- A property of sets is given here by a list K, in any order, of the sets that have it.
 -- So it is said of every property of which there is a list at all.

@@ -1,6 +1,6 @@
 // Sets in order: of two sets the one that lacks the lowest atom in which they differ comes first.
 ghost use Rattle.std.specs.Prelude.{◌≡◌, ℕ, map, Some, IsSomeAnd, Decides, refl};
-ghost use Rattle.atoms.specs.Laws.{ListLaws, OrderLaws};
+ghost use Rattle.atoms.specs.Laws.{CmpLaw, ListLaws, OrderLaws};
 ghost use Rattle.atoms.specs.Member.{differ, has, set_cmp};
 ghost use Rattle.atoms.specs.Sets.{Precedes, Rising};
 ghost use Rattle.std.specs.Cmp.{partial_order_from_total};
@@ -55,6 +55,7 @@ impl Ord for AtomSet {
     #[tactic(auto, using(crate::proofs::Ordered::less_is, crate::proofs::Ordered::greater_is))]
     fn cmp(&self, other: &AtomSet) -> Ordering
         ensures value { result ≡ set_cmp self.now other.now }
+        ensures law { CmpLaw }
         ensures ranked { MatchOrdering result (Precedes (has self.now) (has other.now)) (self.now ≡ other.now) (Precedes (has other.now) (has self.now)) }
     {
         if self.precedes(other) {
