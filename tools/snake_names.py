@@ -4,14 +4,15 @@
 usage: python3 tools/snake_names.py [--list]     at the top of a repository that port.py has just turned
 
 A name counts as the repository's own where a file of specs/ or proofs/ defines it. A name that the checker
-makes (a goal, a step, a loop) and a name of the library stay. `--list` prints old and new names only.
+makes (a goal, a step, a loop) and a name of the library stay, unless spelled as an own name. `--list` prints old
+and new names only. A commit from before this file needs it copied in, outside of git.
 """
 import glob
 import re
 import sys
 
 NAME = r"[A-Za-z_][\w'₀-₉]*(?:-[\w'₀-₉]+)*"
-# names that would fall together with another one
+# names that would fall together with another one, or stand beside a word of the library
 OTHER = {
     "bit-and": "bit_of_and",
     "bit-or": "bit_of_or",
@@ -39,7 +40,7 @@ def defined():
             m = re.match(rf"^(?:abbrev |unfoldable )?(?:pub )?({NAME})\s*(?:[({{].*)?:\s", line)
             if m and not re.search(r":\s*goal\.", line):
                 names.add(m.group(1))
-            m = re.match(rf"^\s+pub ({NAME})\s*:\s", line)
+            m = re.match(rf"^\s+(?:pub )?({NAME})\s*:\s", line)
             if m:
                 names.add(m.group(1))
     return names
@@ -79,7 +80,7 @@ def main():
 
 
 def turn_proof(line, turn):
-    # strings and goal names stay
+    # strings stay
     return "".join(p if p.startswith('"') else turn(p) for p in re.split(r'("(?:[^"\\]|\\.)*")', line))
 
 

@@ -117,11 +117,11 @@ decides_same s t r d = ((same, back), (λ e i. ap (λ (u : AtomSet). has u i) (s
     same : r ≡ true → s ≡ t
     same e = made_same s t (ext_get_or 0 s.words t.words (s.long ∙ sym t.long) (λ j l. words (d.0 e) j))
 
-    at-word : s ≡ t → (j : ℕ) → get_or s.words j 0 ≡ get_or t.words j 0
-    at-word e j = ap (λ (u : AtomSet). get_or u.words j 0) e
+    at_word : s ≡ t → (j : ℕ) → get_or s.words j 0 ≡ get_or t.words j 0
+    at_word e j = ap (λ (u : AtomSet). get_or u.words j 0) e
 
     back : s ≡ t → r ≡ true
-    back e = d.1 (at-word e 0, at-word e 1, at-word e 2, at-word e 3)
+    back e = d.1 (at_word e 0, at_word e 1, at_word e 2, at_word e 3)
 
 -- one word written, in which f changes the digit of the atom i alone
 changed : (f : Bool → Bool → Bool) → ((b : Bool) → f false b ≡ b) → (ws : List ℕ) (i w : ℕ) → i < 256 → length ws ≡ 4

@@ -25,8 +25,8 @@ module _ (ts : List (List ℕ)) (i : ℕ) where
   wrong_second : (m : ℕ) → IsNumber (text_at ts (i + 1)) m → IsNoNumber (text_at ts (i + 2)) → FirstWrong ts i (i + 2)
   wrong_second m a h = (omega arith, h, λ q l k. let e : q ≡ i + 1 = omega arith in rw e (m, a))
 
-  wrong-third : (m n : ℕ) → IsNumber (text_at ts (i + 1)) m → IsNumber (text_at ts (i + 2)) n → IsNoNumber (text_at ts (i + 3)) → FirstWrong ts i (i + 3)
-  wrong-third m n a b h = (omega arith, h, λ q l k. ⊎_elim (λ (x : q < i + 2). let e : q ≡ i + 1 = omega arith in rw e (m, a)) (λ (x : i + 2 ≤ q). let e : q ≡ i + 2 = omega arith in rw e (n, b)) (cases_lt q (i + 2)))
+  wrong_third : (m n : ℕ) → IsNumber (text_at ts (i + 1)) m → IsNumber (text_at ts (i + 2)) n → IsNoNumber (text_at ts (i + 3)) → FirstWrong ts i (i + 3)
+  wrong_third m n a b h = (omega arith, h, λ q l k. ⊎_elim (λ (x : q < i + 2). let e : q ≡ i + 1 = omega arith in rw e (m, a)) (λ (x : i + 2 ≤ q). let e : q ≡ i + 2 = omega arith in rw e (n, b)) (cases_lt q (i + 2)))
 
   pub offset_short : (n : ℕ) → length ts ≡ n → text_at ts i ≡ codes "--offset" → i < n → n - i ≤ 1 → FaultAt ts i (Incomplete i)
   offset_short n e t a b = (refl, omega arith, inl (t, omega arith))
@@ -52,7 +52,7 @@ module _ (ts : List (List ℕ)) (i : ℕ) where
     first_wrong b u h = rw h.0 (inr (o, omega arith), wrong_second b u h.1)
 
     pub last_wrong : (b c : ℕ) → IsNumber (text_at ts (i + 1)) b → IsNumber (text_at ts (i + 2)) c → Missed (i + 3) f → FaultAt ts i f
-    last_wrong b c u v h = rw h.0 (inr (o, omega arith), wrong-third b c u v h.1)
+    last_wrong b c u v h = rw h.0 (inr (o, omega arith), wrong_third b c u v h.1)
 
   -- the step of three numbers
   pub selected : (b f l : ℕ) (r : Result Step ArgumentFault) → SelectAt ts i → NumbersAt ts i b f l → Selects i b f l r → ReadsStep ts i r
@@ -68,18 +68,18 @@ module _ (ts : List (List ℕ)) where
   pub unknown : (n i : ℕ) (t : List ℕ) → length ts ≡ n → i < n → t ≡ text_at ts i → (t ≡ codes "--offset" → ⊥) → (t ≡ codes "--select" → ⊥) → FaultAt ts i (Unknown i)
   unknown n i t e l h a b = (refl, omega arith, λ x. a (h ∙ x), λ x. b (h ∙ x))
 
-  step-within : (i : ℕ) (s : Step) → StepAt ts i s → i + width s ≤ length ts
-  step-within i (Offset d) h = omega (arith, h.0.1)
-  step-within i (Select s) h = omega (arith, h.0.1)
+  step_within : (i : ℕ) (s : Step) → StepAt ts i s → i + width s ≤ length ts
+  step_within i (Offset d) h = omega (arith, h.0.1)
+  step_within i (Select s) h = omega (arith, h.0.1)
 
-  asks-more : (i : ℕ) (ss : List Step) (j : ℕ) (s : Step) → Asks ts i ss j → StepAt ts j s → Asks ts i (ss ++ s ∷ []) (j + width s)
-  asks-more i [] j s e h = rw e (h, refl)
-  asks-more i (t ∷ ss) j s h k = (h.0, asks-more (i + width t) ss j s h.1 k)
+  asks_more : (i : ℕ) (ss : List Step) (j : ℕ) (s : Step) → Asks ts i ss j → StepAt ts j s → Asks ts i (ss ++ s ∷ []) (j + width s)
+  asks_more i [] j s e h = rw e (h, refl)
+  asks_more i (t ∷ ss) j s h k = (h.0, asks_more (i + width t) ss j s h.1 k)
 
   module _ (n : ℕ) (len : length ts ≡ n) (ss : List Step) (i : ℕ) (h : Asks ts 0 ss i) where
     -- one step more
     pub one_more : (s : Step) (more : List Step) (w : ℕ) → StepAt ts i s → more ≡ ss ++ s ∷ [] → w ≡ width s → Asks ts 0 more (i + w) × (i + w ≤ n)
-    one_more s more w k e u = rw (e, u) (asks-more 0 ss i s h k, omega (arith, step-within i s k))
+    one_more s more w k e u = rw (e, u) (asks_more 0 ss i s h k, omega (arith, step_within i s k))
 
     -- no argument is left
     pub all_read : i ≤ n → n ≤ i → Asks ts 0 ss (length ts)

@@ -43,18 +43,18 @@ module _ (d n : ℕ) (m : Meaning) (is : n ≡ atom_count m) (room : true ≡ le
       go overfull h = refl
       go (program P) h = sym (ap rule_count (cond-true (leb (P.atoms + d) 256) (program (raised_program d P)) overfull h) ∙ length-map P.rules (raised_rule d))
 
-  offset-rules : rules_of (offset_by d m) ≡ map (raised_rule d) (rules_of m)
-  offset-rules = go m fits
+  offset_rules : rules_of (offset_by d m) ≡ map (raised_rule d) (rules_of m)
+  offset_rules = go m fits
     where
       go : (m : Meaning) → leb (atom_count m + d) 256 ≡ true → rules_of (offset_by d m) ≡ map (raised_rule d) (rules_of m)
       go overfull h = refl
       go (program P) h = ap rules_of (cond-true (leb (P.atoms + d) 256) (program (raised_program d P)) overfull h)
 
-  offset-length : length (rules_of (offset_by d m)) ≡ length (rules_of m)
-  offset-length = ap length offset-rules ∙ length-map (rules_of m) (raised_rule d)
+  offset_length : length (rules_of (offset_by d m)) ≡ length (rules_of m)
+  offset_length = ap length offset_rules ∙ length-map (rules_of m) (raised_rule d)
 
   pub offset_none : (k : ℕ) (p : Rule) → false ≡ ltb k (length (rules_of m)) → (false ≡ ltb k (length (rules_of (offset_by d m)))) × (p ≡ get_or (rules_of (offset_by d m)) k p)
-  offset_none k p t = let l = ltb-false k (length (rules_of m)) (sym t) in no_rule_lem (rules_of (offset_by d m)) k p (omega (arith, offset-length))
+  offset_none k p t = let l = ltb-false k (length (rules_of m)) (sym t) in no_rule_lem (rules_of (offset_by d m)) k p (omega (arith, offset_length))
 
   pub offset_rule : Small m → (k : ℕ) (p : Rule) (r s : RuleValue) → true ≡ ltb k (length (rules_of m)) → as_rule r ≡ get_or (rules_of m) k p → Shifted d r s
       → (true ≡ ltb k (length (rules_of (offset_by d m)))) × (as_rule s ≡ get_or (rules_of (offset_by d m)) k p)
@@ -62,6 +62,6 @@ module _ (d n : ℕ) (m : Meaning) (is : n ≡ atom_count m) (room : true ≡ le
       let l = ltb-true k (length (rules_of m)) (sym t) in
       let over = subst (Over (atom_count m)) (sym e) (over_at m small k p l) in
       let read = get_or-map (raised_rule d) (rules_of m) k p p l in (
-        t ∙ ap (ltb k) (sym offset-length),
-        shifted_rule d (atom_count m) r s over (leb-true (atom_count m + d) 256 fits) moved ∙ ap (raised_rule d) e ∙ sym (ap (λ (rs : List Rule). get_or rs k p) offset-rules ∙ read),
+        t ∙ ap (ltb k) (sym offset_length),
+        shifted_rule d (atom_count m) r s over (leb-true (atom_count m + d) 256 fits) moved ∙ ap (raised_rule d) e ∙ sym (ap (λ (rs : List Rule). get_or rs k p) offset_rules ∙ read),
       )

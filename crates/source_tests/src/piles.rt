@@ -1,4 +1,4 @@
-// Piles, loaded, and proof-read.
+// Piles, loaded and accounted for.
 use crate::build::*;
 use account::inspect::inspect_pile;
 use pile::assemble::assemble;

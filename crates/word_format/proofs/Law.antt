@@ -21,25 +21,25 @@ use Rattle.word_format.proofs.Segments.{Clean, clean_from, clean_to, closed, clo
 
 module _ (n : ℕ) (small : n ≤ 256) where
   pub read_rules : (rs : List Rule) → AllByRecursion (Over n) rs → map rule_of (segments (flat_map (write_rule n) rs)) ≡ rs
-  read_rules rs over = ap (map rule_of) (segments_written n small rs) ∙ read-each rs over
+  read_rules rs over = ap (map rule_of) (segments_written n small rs) ∙ read_each rs over
     where
-      read-each : (rs : List Rule) → AllByRecursion (Over n) rs → map rule_of (map (write_rule n) rs) ≡ rs
-      read-each [] over = refl
-      read-each (r ∷ rs) (o, over) = ap₂ (λ (x : Rule) (xs : List Rule). x ∷ xs) (read_rule n r small o) (read-each rs over)
+      read_each : (rs : List Rule) → AllByRecursion (Over n) rs → map rule_of (map (write_rule n) rs) ≡ rs
+      read_each [] over = refl
+      read_each (r ∷ rs) (o, over) = ap₂ (λ (x : Rule) (xs : List Rule). x ∷ xs) (read_rule n r small o) (read_each rs over)
 
   -- The words of rules after an end word are faultless.
-  clean-parts : (t rest : List ℕ) (p e : ℕ) → AllByRecursion (AtomWord n) t → Ascending ◌<◌ t → (is_end p ≡ true) ⊎ AllByRecursion (λ x. p < x) t → e < 1024 → Clean n end_word (e + 1) rest → Clean n p e (t ++ end_word ∷ rest)
-  clean-parts [] rest p e a u after l c = (end_faultless n p e end_word refl refl l, c)
-  clean-parts (w ∷ t) rest p e (aw, a) (lt, u) after l c = (
+  clean_parts : (t rest : List ℕ) (p e : ℕ) → AllByRecursion (AtomWord n) t → Ascending ◌<◌ t → (is_end p ≡ true) ⊎ AllByRecursion (λ x. p < x) t → e < 1024 → Clean n end_word (e + 1) rest → Clean n p e (t ++ end_word ∷ rest)
+  clean_parts [] rest p e a u after l c = (end_faultless n p e end_word refl refl l, c)
+  clean_parts (w ∷ t) rest p e (aw, a) (lt, u) after l c = (
     atom_faultless n p e w aw.0 aw.1 small (⊎_elim (λ q. end_follows p w q) (λ m. lt_follows p w m.0 aw.0) after),
     let z : e + cond (is_end w) 1 0 ≡ e = rw aw.0 (omega arith) in
-        rw z (clean-parts t rest w e a u (inr lt) l c),
+        rw z (clean_parts t rest w e a u (inr lt) l c),
   )
 
   pub clean_rules : (rs : List Rule) (p e : ℕ) → is_end p ≡ true → e + length rs ≤ 1024 → Clean n p e (flat_map (write_rule n) rs)
   clean_rules [] p e q l = tt
   clean_rules (r ∷ rs) p e q l =
-      let c = clean-parts (parts n r) (flat_map (write_rule n) rs) p e (parts_atoms n r small) (parts_up n r small) (inl q) (omega arith) (clean_rules rs end_word (e + 1) refl (omega arith)) in
+      let c = clean_parts (parts n r) (flat_map (write_rule n) rs) p e (parts_atoms n r small) (parts_up n r small) (inl q) (omega arith) (clean_rules rs end_word (e + 1) refl (omega arith)) in
       subst (Clean n p e) (sym (append_assoc (parts n r) (end_word ∷ []) (flat_map (write_rule n) rs)) ∙ ap (λ (x : List ℕ). x ++ flat_map (write_rule n) rs) (sym (write_parts n r))) c
 
   closed_parts : (t rest : List ℕ) (p : ℕ) → closed end_word rest ≡ true → closed p (t ++ end_word ∷ rest) ≡ true
@@ -118,22 +118,22 @@ write_meaning (h ∷ b) law = (
 
     shape : (ss : List (List ℕ)) → Shape (number_of h) h ss → AllByRecursion (Rest (number_of h) end_word) ss
     shape [] s = tt
-    shape (s ∷ ss) (r, rs) = (after-end s r, rs)
+    shape (s ∷ ss) (r, rs) = (after_end s r, rs)
       where
         -- after any end word a rule begins alike
-        after-end : (s : List ℕ) → Rest (number_of h) h s → Rest (number_of h) end_word s
-        after-end [] r = r
-        after-end (w ∷ s) (inl e) = inl e
-        after-end (w ∷ s) (inr (a, after, r)) = inr (a, inl refl, r)
+        after_end : (s : List ℕ) → Rest (number_of h) h s → Rest (number_of h) end_word s
+        after_end [] r = r
+        after_end (w ∷ s) (inl e) = inl e
+        after_end (w ∷ s) (inr (a, after, r)) = inr (a, inl refl, r)
 
     rests : AllByRecursion (Rest (number_of h) end_word) (segments b)
     rests = shape (segments b) (shapes (number_of h) h 0 b clean cl (All-from_get_or (λ w. w < 2 ^ 32) b 0 (λ i l. small (suc i))))
 
     header : word_of End (number_of h) ≡ h
-    header = ap (λ (k : Kind). word_of k (number_of h)) (sym (same_rank (kind_of h) End (end-rank front.1))) ∙ word_of_parts h (small 0)
+    header = ap (λ (k : Kind). word_of k (number_of h)) (sym (same_rank (kind_of h) End (end_rank front.1))) ∙ word_of_parts h (small 0)
       where
-        end-rank : is_end h ≡ true → rank (kind_of h) ≡ 3
-        end-rank e = grind (arith, nat_tests)
+        end_rank : is_end h ≡ true → rank (kind_of h) ≡ 3
+        end_rank e = grind (arith, nat_tests)
 
     same : written (meaning (h ∷ b)) ≡ h ∷ b
     same = ap₂ (λ (x : ℕ) (y : List ℕ). x ∷ y) header (write_all (number_of h) front.2 (segments b) rests ∙ join_segments h b cl)

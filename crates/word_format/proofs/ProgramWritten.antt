@@ -37,39 +37,39 @@ module _ (n : ℕ) (small : n ≤ 256) where
       ap (λ (x : List ℕ). segments (x ++ flat_map (write_rule n) rs)) (write_parts n r) ∙ ap segments (append_assoc (parts n r) (end_word ∷ []) (flat_map (write_rule n) rs))
       ∙ segments_cons n (parts n r) (flat_map (write_rule n) rs) (parts_atoms n r small) refl ∙ ap₂ (λ (x : List ℕ) (xs : List (List ℕ)). x ∷ xs) (sym (write_parts n r)) (segments_written rs)
 
-  past-parts : (t rest : List ℕ) (i : ℕ) → AllByRecursion (AtomWord n) t → past_ends i (t ++ end_word ∷ rest) ≡ (i + (length t + 1)) ∷ past_ends (i + (length t + 1)) rest
-  past-parts [] rest i a = refl
-  past-parts (w ∷ t) rest i ((ew, lw), a) = let e : i + 1 + (length t + 1) ≡ i + (suc (length t) + 1) = omega arith in rw ew (past-parts t rest (i + 1) a ∙ ap (λ (x : ℕ). x ∷ past_ends x rest) e)
+  past_parts : (t rest : List ℕ) (i : ℕ) → AllByRecursion (AtomWord n) t → past_ends i (t ++ end_word ∷ rest) ≡ (i + (length t + 1)) ∷ past_ends (i + (length t + 1)) rest
+  past_parts [] rest i a = refl
+  past_parts (w ∷ t) rest i ((ew, lw), a) = let e : i + 1 + (length t + 1) ≡ i + (suc (length t) + 1) = omega arith in rw ew (past_parts t rest (i + 1) a ∙ ap (λ (x : ℕ). x ∷ past_ends x rest) e)
 
-  past-rule : (r : Rule) (rs : List Rule) (i : ℕ) → past_ends i (flat_map (write_rule n) (r ∷ rs)) ≡ (i + length (write_rule n r)) ∷ past_ends (i + length (write_rule n r)) (flat_map (write_rule n) rs)
-  past-rule r rs i =
+  past_rule : (r : Rule) (rs : List Rule) (i : ℕ) → past_ends i (flat_map (write_rule n) (r ∷ rs)) ≡ (i + length (write_rule n r)) ∷ past_ends (i + length (write_rule n r)) (flat_map (write_rule n) rs)
+  past_rule r rs i =
       let long : length (parts n r) + 1 ≡ length (write_rule n r) = omega (arith, length-append (parts n r) (end_word ∷ []), ap length (write_parts n r)) in
       ap (λ (x : List ℕ). past_ends i (x ++ flat_map (write_rule n) rs)) (write_parts n r) ∙ ap (past_ends i) (append_assoc (parts n r) (end_word ∷ []) (flat_map (write_rule n) rs))
-      ∙ past-parts (parts n r) (flat_map (write_rule n) rs) i (parts_atoms n r small) ∙ ap (λ (x : ℕ). (i + x) ∷ past_ends (i + x) (flat_map (write_rule n) rs)) long
+      ∙ past_parts (parts n r) (flat_map (write_rule n) rs) i (parts_atoms n r small) ∙ ap (λ (x : ℕ). (i + x) ∷ past_ends (i + x) (flat_map (write_rule n) rs)) long
 
   next_start : (rs : List Rule) (i k : ℕ) → k < length rs → get_or (past_ends i (flat_map (write_rule n) rs)) k 0 ≡ get_or (i ∷ past_ends i (flat_map (write_rule n) rs)) k 0 + length (write_rule n (rule_at rs k))
   next_start [] i k l = absurd (omega arith)
-  next_start (r ∷ rs) i zero l = ap (λ (x : List ℕ). get_or x 0 0) (past-rule r rs i)
+  next_start (r ∷ rs) i zero l = ap (λ (x : List ℕ). get_or x 0 0) (past_rule r rs i)
   next_start (r ∷ rs) i (suc k) l =
       let j = i + length (write_rule n r) in
-      ap (λ (x : List ℕ). get_or x (suc k) 0) (past-rule r rs i) ∙ next_start rs j k (omega arith) ∙ ap (λ (x : List ℕ). get_or x k 0 + length (write_rule n (rule_at rs k))) (sym (past-rule r rs i))
+      ap (λ (x : List ℕ). get_or x (suc k) 0) (past_rule r rs i) ∙ next_start rs j k (omega arith) ∙ ap (λ (x : List ℕ). get_or x k 0 + length (write_rule n (rule_at rs k))) (sym (past_rule r rs i))
 
 -- rule by rule
 module _ (P : Program) (limits : Limited P) where
-  starts-written : starts (written P) ≡ 1 ∷ past_ends 1 (flat_map (write_rule P.atoms) P.rules)
-  starts-written = let e : is_end (word_of End P.atoms) ≡ true = is_kind_word End End P.atoms (omega (arith, limits.0)) in rw e
+  starts_written : starts (written P) ≡ 1 ∷ past_ends 1 (flat_map (write_rule P.atoms) P.rules)
+  starts_written = let e : is_end (word_of End P.atoms) ≡ true = is_kind_word End End P.atoms (omega (arith, limits.0)) in rw e
 
   pub written_count : length (meaning (written P)).rules ≡ length P.rules
   written_count = length-map (segments (flat_map (write_rule P.atoms) P.rules)) rule_of ∙ ap length (segments_written P.atoms limits.0 P.rules) ∙ length-map P.rules (write_rule P.atoms)
 
   pub written_first : 1 ≡ get_or (starts (written P)) 0 0
-  written_first = sym (ap (λ (x : List ℕ). get_or x 0 0) starts-written)
+  written_first = sym (ap (λ (x : List ℕ). get_or x 0 0) starts_written)
 
   pub written_next : (k : ℕ) → k < length P.rules → get_or (starts (written P)) k 0 + length (write_rule P.atoms (rule_at P.rules k)) ≡ get_or (starts (written P)) (k + 1) 0
   written_next k l =
       let body = flat_map (write_rule P.atoms) P.rules in
-      ap (λ (x : List ℕ). get_or x k 0 + length (write_rule P.atoms (rule_at P.rules k))) starts-written ∙ sym (next_start P.atoms limits.0 P.rules 1 k l)
-      ∙ ap (λ (j : ℕ). get_or (1 ∷ past_ends 1 body) j 0) (sym (add-one k)) ∙ ap (λ (x : List ℕ). get_or x (k + 1) 0) (sym starts-written)
+      ap (λ (x : List ℕ). get_or x k 0 + length (write_rule P.atoms (rule_at P.rules k))) starts_written ∙ sym (next_start P.atoms limits.0 P.rules 1 k l)
+      ∙ ap (λ (j : ℕ). get_or (1 ∷ past_ends 1 body) j 0) (sym (add-one k)) ∙ ap (λ (x : List ℕ). get_or x (k + 1) 0) (sym starts_written)
 
   pub written_words : (k : ℕ) → k < length P.rules → write_rule P.atoms (rule_at P.rules k) ≡ rule_words (written P) k
   written_words k l = sym (ap (λ (x : List (List ℕ)). get_or x k []) (segments_written P.atoms limits.0 P.rules) ∙ get_or-map (write_rule P.atoms) P.rules k no_rule [] l)

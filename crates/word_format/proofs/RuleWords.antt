@@ -35,12 +35,12 @@ abbrev pub PartWord : ℕ → Rule → ℕ → Type 0
 PartWord n r x = (k : Kind) × (i : ℕ) × (rank k < 3) × (i < n) × (part k r i ≡ true) × (x ≡ word_of k i)
 
 module _ (n : ℕ) (r : Rule) where
-  from-kind : (k : Kind) (x : ℕ) → rank k < 3 → Has (words_of k (part k r) n) x → PartWord n r x
-  from-kind k x l h = let f = from_words k (part k r) n x h in (k, f.0, l, f.1, f.2, f.3)
+  from_kind : (k : Kind) (x : ℕ) → rank k < 3 → Has (words_of k (part k r) n) x → PartWord n r x
+  from_kind k x l h = let f = from_words k (part k r) n x h in (k, f.0, l, f.1, f.2, f.3)
 
   pub from_parts : (x : ℕ) → Has (parts n r) x → PartWord n r x
   from_parts x h =
-      ⊎_elim (from-kind Head x (omega arith)) (λ m. ⊎_elim (from-kind Need x (omega arith)) (from-kind Bar x (omega arith)) (has_append_cases (words_of Need r.needs n) (words_of Bar r.bars n) x m))
+      ⊎_elim (from_kind Head x (omega arith)) (λ m. ⊎_elim (from_kind Need x (omega arith)) (from_kind Bar x (omega arith)) (has_append_cases (words_of Need r.needs n) (words_of Bar r.bars n) x m))
       (has_append_cases (words_of Head r.heads n) (words_of Need r.needs n ++ words_of Bar r.bars n) x h)
 
   pub to_parts : (k : Kind) (i : ℕ) → rank k < 3 → i < n → part k r i ≡ true → Has (parts n r) (word_of k i)
