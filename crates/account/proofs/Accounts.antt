@@ -9,17 +9,22 @@ use Rattle.word_format.specs.Reading.{rule_of, meaning, segments}
 use Rattle.word_format.specs.Showing.{form_of, same_form, Part, Shows}
 use Rattle.account.specs.Lines.{form_count, rule_line, rule_lines, shown_line, summary, summary_of, lines_of}
 
-pub count_append : (g : Form) (xs ys : List (List ℕ)) → form_count g (xs ++ ys) ≡ form_count g xs + form_count g ys
+count_append : (g : Form) (xs ys : List (List ℕ)) → form_count g (xs ++ ys) ≡ form_count g xs + form_count g ys
 count_append g [] ys = omega arith
 count_append g (x ∷ xs) ys = let h = count_append g xs ys in omega arith
 
--- one rule more
+-- one rule more, with the words s
+pub count_next : (g : Form) (ss : List (List ℕ)) (k : ℕ) (s : List ℕ) → k < length ss → get_or ss k [] ≡ s → form_count g (take (k + 1) ss) ≡ form_count g (take k ss) + cond (same_form (form_of s) g) 1 0
+count_next g ss k s l e =
+    ap (form_count g) (take_more ss k [] l) ∙ count_append g (take k ss) (get_or ss k [] ∷ [])
+    ∙ ap (λ (x : List ℕ). form_count g (take k ss) + form_count g (x ∷ [])) e ∙ omega arith
+
+-- one rule more, as it is shown
 pub count_more : (ws : List ℕ) (k : ℕ) (f : Form) (part : List ℕ) (position : ℕ) → Part ws k f part position → (g : Form) → form_count g (take (k + 1) (segments (drop 1 ws))) ≡ form_count g (take k (segments (drop 1 ws))) + cond (same_form f g) 1 0
 count_more ws k f part position (l, e, p, q) g =
     let ss = segments (drop 1 ws) in
     let m = length-map ss rule_of in
-    let one : form_count g (get_or ss k [] ∷ []) ≡ cond (same_form f g) 1 0 = ap (λ (x : List ℕ). cond (same_form (form_of x) g) 1 0 + 0) (sym e) ∙ ap (λ (x : Form). cond (same_form x g) 1 0 + 0) q ∙ omega arith in
-    ap (form_count g) (take_more ss k [] (omega arith)) ∙ count_append g (take k ss) (get_or ss k [] ∷ []) ∙ ap (λ (x : ℕ). form_count g (take k ss) + x) one
+    count_next g ss k part (omega arith) (sym e) ∙ ap (λ (x : Form). form_count g (take k ss) + cond (same_form x g) 1 0) q
 
 lines_more : (ws : List ℕ) (k : ℕ) (f : Form) (part : List ℕ) (position : ℕ) → Part ws k f part position → rule_lines ws k ++ rule_line k position part ≡ rule_lines ws (k + 1)
 lines_more ws k f part position (l, e, p, q) = ap₂ (λ (x : List ℕ) (y : ℕ). rule_lines ws k ++ rule_line k y x) e p ∙ ap (rule_lines ws) (sym (add-one k))

@@ -1,6 +1,6 @@
 -- The account of a table, rule by rule.
-use Rattle.std.proofs.Common.{◌≡◌, ℕ, ◌+◌, ◌*◌, ◌<◌, ◌≤◌, cond, List, [], ◌∷◌, ◌++◌, map, length, get_or, take, drop, sym, ap, ◌∙◌, ap₂, append_assoc, add-one, arith}
-use Rattle.std.proofs.lemmas.List.{append-nil, take_more, take_all, length-map, get_or-map}
+use Rattle.std.proofs.Common.{◌≡◌, ℕ, ◌+◌, ◌*◌, ◌<◌, ◌≤◌, cond, List, ◌++◌, map, length, get_or, take, drop, sym, ap, ◌∙◌, ap₂, append_assoc, add-one, arith}
+use Rattle.std.proofs.lemmas.List.{append-nil, take_all, length-map, get_or-map}
 use Rattle.program.specs.Programs.{Program, Limited, rule_at, no_rule}
 use Rattle.program.specs.Rules.{as_rule}
 use Rattle.program.specs.declared.rule.Rule.{Rule as RuleValue}
@@ -16,13 +16,7 @@ use Rattle.word_format.proofs.ProgramWritten.{rule_few, written_count, written_f
 use Rattle.account.specs.Lines.{form_count, rule_line, rule_lines, summary, summary_of, lines_of}
 use Rattle.account.specs.Tallies.{Counted}
 use Rattle.account.specs.declared.report.Counts.{Counts}
-use Rattle.account.proofs.Accounts.{count_append}
-
--- one rule more, with the words s
-count_more : (g : Form) (ss : List (List ℕ)) (k : ℕ) (s : List ℕ) → k < length ss → get_or ss k [] ≡ s → form_count g (take (k + 1) ss) ≡ form_count g (take k ss) + cond (same_form (form_of s) g) 1 0
-count_more g ss k s l e =
-    ap (form_count g) (take_more ss k [] l) ∙ count_append g (take k ss) (get_or ss k [] ∷ [])
-    ∙ ap (λ (x : List ℕ). form_count g (take k ss) + form_count g (x ∷ [])) e ∙ omega arith
+use Rattle.account.proofs.Accounts.{count_next, summary_is}
 
 -- The lines of the first k rules are written after `start`, and the next rule begins at `position`.
 pub record Listed (P : Program) (k : ℕ) (start text : List ℕ) (counts : Counts) (position : ℕ) : Type 0 where
@@ -47,7 +41,7 @@ module _ (P : Program) (limits : Limited P) (start : List ℕ) where
     same_words = is ∙ written_words P limits k in'
 
     more : (g : Form) → form_count g (take (k + 1) (segments (drop 1 (written P)))) ≡ form_count g (take k (segments (drop 1 (written P)))) + cond (same_form (form_of words) g) 1 0
-    more g = count_more g (segments (drop 1 (written P))) k words (let e = written_count P limits in let m = length-map (segments (drop 1 (written P))) rule_of in omega arith) (sym same_words)
+    more g = count_next g (segments (drop 1 (written P))) k words (let e = written_count P limits in let m = length-map (segments (drop 1 (written P))) rule_of in omega arith) (sym same_words)
 
     pub listed_fits : (text : List ℕ) (counts : Counts) (position : ℕ) → Listed P k start text counts position → position + length words ≤ 1 + 769 * (k + 1)
     listed_fits text counts position h = omega (arith, h.low, ap length is, rule_few P.atoms (rule_at P.rules k), limits.0)
@@ -86,13 +80,9 @@ module _ (P : Program) (limits : Limited P) (start : List ℕ) where
       )
 
 -- the counts of a program
-pub summary_is : (P : Program) → Limited P → (atoms rules : ℕ) (counts : Counts) (text : List ℕ) → text ≡ summary atoms rules counts.facts counts.bodies counts.constraints
+pub table_summary : (P : Program) → Limited P → (atoms rules : ℕ) (counts : Counts) (text : List ℕ) → text ≡ summary atoms rules counts.facts counts.bodies counts.constraints
     → atoms ≡ P.atoms → rules ≡ length P.rules → Counted (segments (drop 1 (written P))) counts → text ≡ summary_of (written P)
-unfolding summary_of
-summary_is P limits atoms rules counts text t a r (f, b, c) =
-    let ss = segments (drop 1 (written P)) in
+table_summary P limits atoms rules counts text t a r (f, b, c) =
     let n : atoms ≡ (meaning (written P)).atoms = a ∙ sym (number_of_word End P.atoms (omega (arith, limits.0))) in
     let m : rules ≡ length (meaning (written P)).rules = r ∙ sym (written_count P limits) in
-    t ∙ ap₂ (λ (x y : ℕ). summary x y counts.facts counts.bodies counts.constraints) n m
-    ∙ ap₂ (λ (x y : ℕ). summary (meaning (written P)).atoms (length (meaning (written P)).rules) x y counts.constraints) f b
-    ∙ ap (summary (meaning (written P)).atoms (length (meaning (written P)).rules) (form_count form.Fact ss) (form_count form.Rule ss)) c
+    summary_is (written P) atoms rules counts.facts counts.bodies counts.constraints text t n m f b c
