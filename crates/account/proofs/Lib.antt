@@ -1,3 +1,5 @@
 pub mod Texts
+pub mod Forms
 pub mod Accounts
-pub mod TableAccounts
+pub mod Inspected
+pub mod WordPrograms

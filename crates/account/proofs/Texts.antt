@@ -1,5 +1,5 @@
 -- The text of a rule, piece by piece.
-use Rattle.std.proofs.Common.{◌≡◌, ℕ, ◌+◌, ◌<◌, ◌≤◌, true, false, List, [], ◌∷◌, ◌++◌, length, get_or, drop, codes, decimal, sym, ap, ◌∙◌, append_assoc}
+use Rattle.std.proofs.Common.{◌≡◌, ℕ, ◌+◌, ◌<◌, ◌≤◌, true, false, List, [], ◌∷◌, ◌++◌, length, get_or, drop, decimal, sym, ap, ◌∙◌, append_assoc}
 use Rattle.std.proofs.lemmas.List.{append-nil, at_drop_more, at_drop_all}
 use Rattle.word_format.specs.declared.word.Kind.{Kind}
 use Rattle.word_format.specs.Words.{is_kind, number_of}
@@ -24,10 +24,3 @@ module _ (k : Kind) (ws : List ℕ) (i : ℕ) (first later before all : List ℕ
   atoms_end l h =
       let e : numbers k (drop i ws) ≡ [] = at_drop_all (numbers k) ws i l in
       sym (append-nil before) ∙ ap (λ (x : List ℕ). before ++ atoms_text first later x) (sym e) ∙ h
-
-pub line_parts : (k position : ℕ) (rest : List ℕ) → (codes "rule " ++ (decimal k ++ (codes " at " ++ (decimal position ++ codes ":")))) ++ rest ≡ codes "rule " ++ (decimal k ++ (codes " at " ++ (decimal position ++ (codes ":" ++ rest))))
-line_parts k position rest = simp append_assoc
-
--- a lead that is known under another name
-pub lead_is : (t u a b later xs : List ℕ) → u ≡ t ++ atoms_text a later xs → a ≡ b → u ≡ t ++ atoms_text b later xs
-lead_is t u a b later xs p e = p ∙ ap (λ (x : List ℕ). t ++ atoms_text x later xs) e

@@ -1,5 +1,5 @@
 -- The text of an account, byte by byte.
-use Rattle.std.specs.Prelude.{ℕ, zero, suc, ◌+◌, cond, List, [], ◌∷◌, ◌++◌, length, drop, codes, decimal, slice_index}
+use Rattle.std.specs.Prelude.{ℕ, zero, suc, ◌+◌, if◌then◌else◌, List, [], ◌∷◌, ◌++◌, length, drop, codes, decimal, slice_index}
 use Rattle.word_format.specs.declared.word.Kind.{Kind}
 use Rattle.word_format.specs.declared.word.Kind.TheVariants.{Head, Need, Bar}
 use Rattle.word_format.specs.declared.shown.Form.{Form}
@@ -14,7 +14,7 @@ use Rattle.word_format.specs.Index.{starts, rule_words}
 -- the numbers of the words of this kind, in order
 abbrev pub numbers : Kind → List ℕ → List ℕ
 numbers k [] = []
-numbers k (w ∷ ws) = cond (is_kind k w) (number_of w ∷ numbers k ws) (numbers k ws)
+numbers k (w ∷ ws) = if is_kind k w then number_of w ∷ numbers k ws else numbers k ws
 
 -- atoms in decimal: the first with one lead, the others with another
 abbrev pub atoms_text : List ℕ → List ℕ → List ℕ → List ℕ
@@ -27,7 +27,7 @@ rule_text ws =
     atoms_text (codes " ") (codes " | ") (numbers Head ws)
     ++ (codes " <-"
     ++ (atoms_text (codes " ") (codes ", ") (numbers Need ws)
-    ++ atoms_text (cond (has_kind Need ws) (codes ", not ") (codes " not ")) (codes ", not ") (numbers Bar ws)))
+    ++ atoms_text (if has_kind Need ws then codes ", not " else codes " not ") (codes ", not ") (numbers Bar ws)))
 
 -- as `rule 4 at 17: 0 | 1 <- 2, not 3`, with a newline
 abbrev pub rule_line : ℕ → ℕ → List ℕ → List ℕ
@@ -43,7 +43,7 @@ shown_line k shown.PastEnd = []
 -- how many rules are of this form
 abbrev pub form_count : Form → List (List ℕ) → ℕ
 form_count f [] = 0
-form_count f (s ∷ ss) = cond (same_form (form_of s) f) 1 0 + form_count f ss
+form_count f (s ∷ ss) = (if same_form (form_of s) f then 1 else 0) + form_count f ss
 
 -- the counts, on two lines
 abbrev pub summary : ℕ → ℕ → ℕ → ℕ → ℕ → List ℕ

@@ -3,5 +3,4 @@
 
 pub mod inspect;
 pub mod report;
-pub mod table_report;
 pub mod text;

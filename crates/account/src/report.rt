@@ -1,101 +1,137 @@
-// The account of a word program.
-ghost use Rattle.account.specs.Lines.{account_of, form_count, lines_of, summary, summary_of};
-ghost use Rattle.word_format.specs.Bytes.{RefusedBytes, bytes_fault, words_of_bytes};
-ghost use Rattle.word_format.specs.Checks.{Clear, Lawful};
-ghost use Rattle.word_format.specs.Held.{contents};
+// The account of a source of rules.
+ghost use Rattle.std.specs.Prelude.{◌≡◌, ◌+◌, ◌≤◌, ◌++◌, ℕ, drop, if◌then◌else◌, string_bytes, MatchResult, Some};
+ghost use Rattle.account.specs.Inspecting.{Accounted, RefusedAccount, written_words};
+ghost use Rattle.account.specs.Lines.{lines_of, summary};
+ghost use Rattle.account.specs.Tallies.{Counted};
+ghost use Rattle.program.specs.Programs.{Over};
+ghost use Rattle.program.specs.Rules.{as_rule};
 ghost use Rattle.word_format.specs.Reading.{segments};
-ghost use Rattle.word_format.specs.declared.shown.Form.TheVariants as form;
-ghost use Rattle.std.specs.Prelude.{◌≡◌, ◌⊎◌, ◌++◌, drop, string_bytes, MatchResult};
+ghost use Rattle.word_format.specs.Showing.{form_of, same_form};
+ghost use Rattle.word_format.specs.Writing.{write_rule};
+ghost use Rattle.word_format.specs.declared.shown.Form.TheVariants as forms;
 
-use crate::text::push_shown;
+use crate::text::RuleLine;
 use program::refusal::Refusal;
+use program::rule::Rule;
+use program::source::RuleSource;
 use std::alloc::Global;
-use word_format::shown::Shown;
-use word_format::words::WordProgram;
+use std::fmt;
+use word_format::shown::Form;
+use word_format::write::written_rule;
 
 /// How many rules there are of each form.
-#[derive(Clone, Copy)]
+#[derive(Clone, Copy, Debug, Default, PartialEq, Eq)]
 pub struct Counts {
     pub facts: usize,
     pub bodies: usize,
     pub constraints: usize,
 }
 
-/// Counts the rules by their form.
-pub fn count_forms(program: &WordProgram) -> Counts
-    ensures facts { result.facts ≡ form_count form.Fact (segments (drop 1 (contents program.now))) }
-    ensures bodies { result.bodies ≡ form_count form.Rule (segments (drop 1 (contents program.now))) }
-    ensures constraints { result.constraints ≡ form_count form.Constraint (segments (drop 1 (contents program.now))) }
-{
-    let mut facts = 0;
-    let mut bodies = 0;
-    let mut constraints = 0;
-    for k in 0..program.rule_count() {
-        match program.show(k) {
-            Shown::Fact(..) => facts += 1,
-            Shown::Rule(..) => bodies += 1,
-            Shown::Constraint(..) => constraints += 1,
-            Shown::PastEnd => {}
+impl Counts {
+    /// One rule more, of this form.
+    fn with(self, form: Form) -> Counts
+        requires { self.facts + self.bodies + self.constraints ≤ 1025 }
+        ensures facts { result.facts ≡ self.facts + (if same_form form forms.Fact then 1 else 0) }
+        ensures bodies { result.bodies ≡ self.bodies + (if same_form form forms.Rule then 1 else 0) }
+        ensures constraints { result.constraints ≡ self.constraints + (if same_form form forms.Constraint then 1 else 0) }
+    {
+        let mut counts = self;
+        match form {
+            Form::Fact => counts.facts += 1,
+            Form::Rule => counts.bodies += 1,
+            Form::Constraint => counts.constraints += 1,
         }
+        counts
     }
-    Counts {
-        facts,
-        bodies,
-        constraints,
+}
+
+/// Counts the rules of a source by their form.
+pub fn count_forms<S: RuleSource>(source: &S) -> Counts
+    ensures { Counted (segments (drop 1 (written_words (S.RuleSource.meaning source.now)))) result }
+{
+    let mut counts = Counts::default();
+    for rule in source.iter() {
+        counts = counts.with(form_of(&rule));
+    }
+    counts
+}
+
+/// The form of a rule by its sets; by its words, as `shown::form_of` goes, it would need memory.
+fn form_of(rule: &Rule) -> Form
+    ensures { (n : ℕ) → n ≤ 256 → Over n (as_rule rule.now) → result ≡ form_of (write_rule n (as_rule rule.now)) }
+{
+    if rule.heads.is_empty() {
+        return Form::Constraint;
+    }
+    if rule.needs.is_empty() && rule.bars.is_empty() {
+        return Form::Fact;
+    }
+    Form::Rule
+}
+
+/// The counts of a program, on two lines.
+#[derive(Clone, Copy)]
+struct Summary {
+    atoms: usize,
+    rules: usize,
+    counts: Counts,
+}
+
+impl fmt::Display for Summary {
+    ghost output = { λ s. Some (summary s.atoms s.rules s.counts.facts s.counts.bodies s.counts.constraints) };
+
+    fn fmt<W: fmt::Write>(&self, f: &mut fmt::Formatter<W>) -> fmt::Result {
+        let Summary {
+            atoms,
+            rules,
+            counts,
+        } = *self;
+        let Counts {
+            facts,
+            bodies,
+            constraints,
+        } = counts;
+        write!(
+            f,
+            "atoms {atoms}\nrules {rules}: facts {facts}, with a body {bodies}, constraints {constraints}\n"
+        )
     }
 }
 
 /// The whole account: the counts, and a line for each rule.
-pub fn account(heap: Global, program: &WordProgram) -> Result<String, Refusal>
-    ensures { MatchResult result (λ s. string_bytes s ≡ account_of (contents program.now)) (λ e. e ≡ Refusal.OutOfMemory) }
+#[tactic(auto, using(crate::proofs::Accounts::accounted_all, crate::proofs::Accounts::no_memory, crate::proofs::Accounts::no_account))]
+pub fn account<S: RuleSource>(heap: Global, source: &S) -> Result<String, Refusal>
+    ensures { MatchResult result (λ s. Accounted (S.RuleSource.meaning source.now) (string_bytes s)) (λ e. RefusedAccount (S.RuleSource.meaning source.now) e) }
 {
-    let mut text = summarize(heap, program)?;
-    push_lines(&mut text, program)?;
+    if source.is_overfull() {
+        return Err(Refusal::Overfull);
+    }
+    let summary = Summary {
+        atoms: source.atom_count(),
+        rules: source.rule_count(),
+        counts: count_forms(source),
+    };
+    let mut text = summary.to_string(heap)?;
+    push_lines(heap, &mut text, source)?;
     Ok(text)
 }
 
-fn summarize(heap: Global, program: &WordProgram) -> Result<String, Refusal>
-    ensures { MatchResult result (λ s. string_bytes s ≡ summary_of (contents program.now)) (λ e. e ≡ Refusal.OutOfMemory) }
+/// The lines of all rules.
+// A `Refusal`, though only memory can be wanting: it passes on that of `written_rule`.
+fn push_lines<S: RuleSource>(heap: Global, text: &mut String, source: &S) -> Result<(), Refusal>
+    ensures { MatchResult result (λ _. string_bytes text.new ≡ string_bytes text.old ++ lines_of (written_words (S.RuleSource.meaning source.now))) (λ e. e ≡ Refusal.OutOfMemory) }
 {
-    let counts = count_forms(program);
-    let text = write_counts(heap, program.atom_count(), program.rule_count(), counts)?;
-    Ok(text)
-}
-
-pub(crate) fn write_counts(
-    heap: Global,
-    atoms: usize,
-    rules: usize,
-    counts: Counts,
-) -> Result<String, Refusal>
-    ensures { MatchResult result (λ s. string_bytes s ≡ summary atoms rules counts.facts counts.bodies counts.constraints) (λ e. e ≡ Refusal.OutOfMemory) }
-{
-    let Counts {
-        facts,
-        bodies,
-        constraints,
-    } = counts;
-    let text = format!(in heap;
-        "atoms {atoms}\nrules {rules}: facts {facts}, with a body {bodies}, constraints {constraints}\n"
-    )?;
-    Ok(text)
-}
-
-fn push_lines(text: &mut String, program: &WordProgram) -> Result<(), Refusal>
-    ensures { MatchResult result (λ _. string_bytes text.new ≡ string_bytes text.old ++ lines_of (contents program.now)) (λ e. e ≡ Refusal.OutOfMemory) }
-{
-    for k in 0..program.rule_count() {
-        push_shown(text, k, program.show(k))?;
+    let atoms = source.atom_count();
+    let mut position = 1;
+    for (number, rule) in source.iter().enumerate() {
+        let words = written_rule(heap, atoms, &rule)?;
+        let line = RuleLine {
+            number,
+            position,
+            words: &words,
+        };
+        write!(text, "{line}")?;
+        position += words.len();
     }
     Ok(())
-}
-
-/// The account of a file's bytes, or its refusal.
-pub fn inspect(heap: Global, bytes: &[u8]) -> Result<String, Refusal>
-    ensures { MatchResult result (λ s. Clear (bytes_fault bytes.now) × Lawful (words_of_bytes bytes.now) × (string_bytes s ≡ account_of (words_of_bytes bytes.now))) (λ e. RefusedBytes bytes.now e ⊎ (e ≡ Refusal.OutOfMemory)) }
-{
-    let mut program = WordProgram::new(heap)?;
-    program.open_bytes(bytes)?;
-    let text = account(heap, &program)?;
-    Ok(text)
 }

@@ -5,3 +5,4 @@ pub mod SetOrder
 pub mod Ascents
 pub mod Listing
 pub mod Ordered
+pub mod MembersListed

@@ -1,5 +1,5 @@
 -- Lists of sets in order: neighbours, no set twice, at most one list of a property, appending what comes after.
-use Rattle.std.proofs.Common.{◌≡◌, ℕ, zero, suc, ◌<◌, ◌⊎◌, List, [], ◌∷◌, ◌++◌, map, length, get_or, sym, inl, inr, ⊎_elim, arith}
+use Rattle.std.proofs.Common.{◌≡◌, ℕ, zero, suc, ◌<◌, ◌⊎◌, List, [], ◌∷◌, ◌++◌, length, get_or, sym, inl, inr, ⊎_elim, arith}
 use Rattle.std.specs.List.{ContainsAt as Has}
 use Rattle.std.proofs.ByRecursion.{All-append, All-get_or, all-has, All-weaker, has_append_left, has_append_right}
 use Rattle.std.proofs.lemmas.Bool.{cases_order}
@@ -24,24 +24,9 @@ rising_once L r i j li lj e = go (cases_order i j)
     go (inr (inl lt)) = absurd (precedes_not_same (get_or L i none) (get_or L j none) (rising_at L r i j none none lt lj) e)
     go (inr (inr gt)) = absurd (precedes_not_same (get_or L j none) (get_or L i none) (rising_at L r j i none none gt li) (sym e))
 
--- the sets that some values stand for rise exactly where each precedes the next
-abbrev pub NextRises : {A : Type 0} → (A → Atoms) → List A → ℕ → Type 0
-NextRises {A} f xs k = (d : A) → Precedes (f (get_or xs k d)) (f (get_or xs (suc k) d))
-
-module _ {A : Type 0} (f : A → Atoms) where
-  pub rising_from_next : (xs : List A) → ((k : ℕ) → suc k < length xs → NextRises f xs k) → Rising (map f xs)
-  rising_from_next [] h = tt
-  rising_from_next (x ∷ []) h = (tt, tt)
-  rising_from_next (x ∷ y ∷ ys) h =
-      let next = rising_from_next (y ∷ ys) (λ k l. h (suc k) (omega arith)) in
-      let here = h 0 (omega arith) x in
-      ((here, All-weaker (Precedes (f y)) (Precedes (f x)) (λ Z. precedes_transitive (f x) (f y) Z here) (map f ys) next.0), next)
-
-  pub next_from_rising : (xs : List A) → Rising (map f xs) → (k : ℕ) → suc k < length xs → (d e : A) → Precedes (f (get_or xs k d)) (f (get_or xs (suc k) e))
-  next_from_rising [] r k l d e = absurd (omega arith)
-  next_from_rising (x ∷ []) r k l d e = absurd (omega arith)
-  next_from_rising (x ∷ y ∷ ys) (first, r) zero l d e = first.0
-  next_from_rising (x ∷ y ∷ ys) (first, r) (suc k) l d e = next_from_rising (y ∷ ys) r k (omega arith) d e
+-- one set more before a rising list
+pub rising_cons : (X Y : Atoms) (L : List Atoms) → Precedes X Y → Rising (Y ∷ L) → Rising (X ∷ Y ∷ L)
+rising_cons X Y L here r = ((here, All-weaker (Precedes Y) (Precedes X) (λ Z. precedes_transitive X Y Z here) L r.0), r)
 
 pub lists_unique : (Q : Atoms → Type 0) (L M : List Atoms) → Lists Q L → Lists Q M → L ≡ M
 lists_unique Q L M l m = same_ascending Precedes precedes_asymmetric L M l.rising m.rising (λ X h. m.whole X (all-has Q L X l.sound h)) (λ X h. l.whole X (all-has Q M X m.sound h))

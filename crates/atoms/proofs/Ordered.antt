@@ -1,14 +1,19 @@
 -- The order of `AtomSet`: what a test of the lowest difference tells, and that the order is total.
-use Rattle.std.proofs.Common.{◌≡◌, ℕ, zero, suc, ◌+◌, ◌<◌, Bool, true, false, ◌⊎◌, Decides, Ordering, Less, Equal, Greater, sym, refl, ap, ◌∙◌, subst, inl, inr, ⊎_elim, arith}
-use Rattle.std.proofs.lemmas.Bool.{both_ways, cases_eq, cases_order, true≢false, false≢true}
+use Rattle.std.proofs.Common.{◌≡◌, ◌≢◌, ℕ, zero, suc, ◌+◌, ◌<◌, Bool, true, false, eqb, List, [], ◌∷◌, map, drop, ◌⊎◌, Decides, Ordering, Less, Equal, Greater, sym, refl, ap, ◌∙◌, subst, inl, inr, ⊎_elim, arith}
+use Rattle.std.specs.Cmp.Lexicographic.{pointwise}
+use Rattle.std.proofs.lemmas.Bool.Decides.{Decides-eqb}
+use Rattle.std.proofs.lemmas.Slice.Eq.{slice_eq-Decides}
+use Rattle.std.proofs.lemmas.Bool.{both_ways, cases_eq, cases_order, false_from_ne_true, and_parts, and_from, true≢false, false≢true}
 use Rattle.std.specs.Bool.{one_answer}
 use Rattle.std.specs.Cmp.{Equal-is, one_rank}
-use Rattle.std.specs.Ordering.{MatchOrdering, bool_cmp, eq_by_cmp, is_eq, ordering_then}
+use Rattle.std.specs.Ordering.{MatchOrdering, bool_cmp, eq_by_cmp, is_eq, is_lt, ordering_then}
+use Rattle.std.specs.List.{list_all, zip}
 use Rattle.atoms.specs.declared.AtomSet.{AtomSet}
-use Rattle.atoms.specs.Sets.{Atoms, Precedes}
+use Rattle.atoms.specs.Sets.{Atoms, Precedes, Rising}
 use Rattle.atoms.specs.Member.{Lowest, cmp_from, differ, has, set_cmp}
-use Rattle.atoms.proofs.Words.{member_below, same_sets}
+use Rattle.atoms.proofs.Words.{made_same, member_below, same_sets}
 use Rattle.atoms.proofs.SetOrder.{cases_precedes, precedes_irreflexive, precedes_transitive, same_below}
+use Rattle.atoms.proofs.Listing.{rising_cons}
 
 not_differ : (x y : Bool) → differ x y ≡ false → x ≡ y
 not_differ true true e = refl
@@ -108,6 +113,28 @@ eq_is s t r d = one_answer r (eq_by_cmp set_cmp s t) d (to, from)
     from : s ≡ t → is_eq (set_cmp s t) ≡ true
     from e = ap is_eq (sym (cmp_is s t Equal e))
 
+-- what `==` of the words tells
+words_decide : (s t : AtomSet) → Decides (pointwise eqb s.words t.words) (s ≡ t)
+words_decide s t =
+    let d = slice_eq-Decides Decides-eqb s.words t.words (pointwise eqb s.words t.words) refl in
+    (λ e. made_same s t (d.0 e), λ e. d.1 (ap (λ (u : AtomSet). u.words) e))
+
+pub eq_value : (s t : AtomSet) → pointwise eqb s.words t.words ≡ eq_by_cmp set_cmp s t
+eq_value s t = eq_is s t (pointwise eqb s.words t.words) (words_decide s t)
+
+-- sets are the same, or some atom is in one of them only
+pub eq_tells : (s t : AtomSet) → ((pointwise eqb s.words t.words ≡ true) × (s ≡ t)) ⊎ ((pointwise eqb s.words t.words ≡ false) × ((i : ℕ) × (has s i ≢ has t i)))
+eq_tells s t = go (cases_sets s t)
+  where
+    apart : (i : ℕ) → has s i ≢ has t i → (pointwise eqb s.words t.words ≡ false) × ((i : ℕ) × (has s i ≢ has t i))
+    apart i ne = (false_from_ne_true _ (λ e. ne (ap (λ (u : AtomSet). has u i) ((words_decide s t).0 e))), (i, ne))
+
+    go : (s ≡ t) ⊎ (Precedes (has s) (has t) ⊎ Precedes (has t) (has s))
+        → ((pointwise eqb s.words t.words ≡ true) × (s ≡ t)) ⊎ ((pointwise eqb s.words t.words ≡ false) × ((i : ℕ) × (has s i ≢ has t i)))
+    go (inl e) = inl ((words_decide s t).1 e, e)
+    go (inr (inl (i, same, x, y))) = inr (apart i (λ e. both_ways (has s i) x (e ∙ y)))
+    go (inr (inr (i, same, y, x))) = inr (apart i (λ e. both_ways (has t i) y (sym e ∙ x)))
+
 -- where neither precedes, they are the same
 pub neither : (s t : AtomSet) → (Precedes (has s) (has t) → ⊥) → (Precedes (has t) (has s) → ⊥) → s ≡ t
 neither s t p q = go (cases_sets s t)
@@ -116,3 +143,28 @@ neither s t p q = go (cases_sets s t)
     go (inl e) = e
     go (inr (inl b)) = absurd (p b)
     go (inr (inr b)) = absurd (q b)
+
+-- `<` of two sets
+pub less_tells : (s t : AtomSet) → Decides (is_lt (set_cmp s t)) (Precedes (has s) (has t))
+less_tells s t = (go (set_cmp s t) (ranked s t), λ p. ap is_lt (sym (less_is s t p)))
+  where
+    go : (o : Ordering) → Rank s t o → is_lt o ≡ true → Precedes (has s) (has t)
+    go Less h e = h
+    go Equal h e = absurd (false≢true e)
+    go Greater h e = absurd (false≢true e)
+
+-- the test of each set against the next tells whether they rise
+abbrev pub each_below_next : List AtomSet → Bool
+each_below_next L = list_all (λ (p : AtomSet × AtomSet). is_lt (set_cmp p.0 p.1)) (zip L (drop 1 L))
+
+pub each_below_next_rises : (L : List AtomSet) → each_below_next L ≡ true → Rising (map has L)
+each_below_next_rises [] e = tt
+each_below_next_rises (s ∷ []) e = (tt, tt)
+each_below_next_rises (s ∷ t ∷ L) e =
+    let parts = and_parts (is_lt (set_cmp s t)) (each_below_next (t ∷ L)) e in
+    rising_cons (has s) (has t) (map has L) ((less_tells s t).0 parts.0) (each_below_next_rises (t ∷ L) parts.1)
+
+pub rises_each_below_next : (L : List AtomSet) → Rising (map has L) → each_below_next L ≡ true
+rises_each_below_next [] r = refl
+rises_each_below_next (s ∷ []) r = refl
+rises_each_below_next (s ∷ t ∷ L) r = and_from _ _ ((less_tells s t).1 r.0.0) (rises_each_below_next (t ∷ L) r.1)

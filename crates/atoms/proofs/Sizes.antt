@@ -1,6 +1,6 @@
 -- How many numbers below a bound are in a set.
-use Rattle.std.proofs.Common.{◌≡◌, ℕ, zero, suc, ◌+◌, ◌<◌, Bool, true, false, cond, not, ◌&&◌, eqb, ◌⊎◌, sym, refl, ap, ◌∙◌, ap₂, inl, inr, add-zero, add_assoc, add-suc, arith}
-use Rattle.std.proofs.lemmas.Bool.{cases_eq}
+use Rattle.std.proofs.Common.{◌≡◌, ℕ, zero, suc, ◌+◌, ◌<◌, ◌≤◌, Bool, true, false, cond, not, ◌&&◌, eqb, ◌⊎◌, sym, refl, ap, ◌∙◌, ap₂, inl, inr, add-zero, add_assoc, add-suc, arith}
+use Rattle.std.proofs.lemmas.Bool.{cases_eq, cond_both}
 use Rattle.std.proofs.lemmas.Bool.Decides.{nat_tests}
 use Rattle.atoms.specs.Sets.{Atoms}
 use Rattle.atoms.specs.Member.{tally}
@@ -21,6 +21,11 @@ tally_split X m (suc n) =
 pub tally_none : (X : Atoms) → tally X 0 ≡ 0
 unfolding tally
 tally_none X = refl
+
+pub tally_bound : (X : Atoms) (n : ℕ) → tally X n ≤ n
+unfolding tally
+tally_bound X zero = omega arith
+tally_bound X (suc n) = cond_both (X n) 1 0 (λ x. tally X n + x ≤ suc n) (λ _. omega (arith, tally_bound X n)) (λ _. omega (arith, tally_bound X n))
 
 -- a set that lost one atom has one less
 pub tally_without : (X Y : Atoms) (i n : ℕ) → i < n → X i ≡ true → ((j : ℕ) → Y j ≡ (not (eqb j i) && X j)) → tally Y n + 1 ≡ tally X n

@@ -1,5 +1,5 @@
 -- Which atoms an `AtomSet` holds.
-use Rattle.std.specs.Prelude.{◌≡◌, ℕ, zero, suc, ◌+◌, ◌/◌, ◌%◌, ◌^◌, ◌<◌, Bool, true, false, cond, not, ◌&&◌, ◌||◌, ◌==◌, slice_index}
+use Rattle.std.specs.Prelude.{◌≡◌, ℕ, zero, suc, ◌+◌, ◌/◌, ◌%◌, ◌^◌, ◌<◌, Bool, true, false, List, [], ◌∷◌, ◌++◌, if◌then◌else◌, not, ◌&&◌, ◌||◌, ◌==◌, slice_index}
 use Rattle.std.specs.declared.cmp.Ordering.{Ordering}
 use Rattle.std.specs.declared.cmp.Ordering.TheVariants.{Equal}
 use Rattle.std.specs.Ordering.{bool_cmp, ordering_then}
@@ -17,11 +17,20 @@ has s i = bit (slice_index s.words (i / 64)) (i % 64)
 -- how many numbers below n are in X
 unfoldable pub tally : Atoms → ℕ → ℕ
 tally X zero = 0
-tally X (suc n) = tally X n + cond (X n) 1 0
+tally X (suc n) = tally X n + (if X n then 1 else 0)
 
 -- how many atoms a set has
 abbrev pub size : AtomSet → ℕ
 size s = tally (has s) 256
+
+-- the numbers below n that are in X, rising
+unfoldable pub members_below : Atoms → ℕ → List ℕ
+members_below X zero = []
+members_below X (suc n) = members_below X n ++ (if X n then n ∷ [] else [])
+
+-- the atoms of a set, rising
+abbrev pub members : AtomSet → List ℕ
+members s = members_below (has s) 256
 
 -- i is in X, and no smaller number is
 abbrev pub Lowest : Atoms → ℕ → Type 0

@@ -2,6 +2,7 @@
 
 ghost use Rattle.std.specs.Prelude.{◌≡◌, ℕ, ◌^◌, ◌<◌, length, slice_index};
 
+pub mod iter;
 pub mod ops;
 pub mod order;
 pub mod shift;

@@ -1,15 +1,15 @@
 // The operations on sets. Each contract says, of every number i, whether i is in the result.
-ghost use Rattle.std.specs.Prelude.{◌≡◌, ℕ, ◌≤◌, false, not, ◌&&◌, ◌||◌, Decides, MatchOption, ◌==◌, nat_lt};
+ghost use Rattle.std.specs.Prelude.{◌≡◌, ℕ, ◌≤◌, false, not, ◌&&◌, ◌||◌, IsTrue, ◌↔◌, MatchOption, ◌==◌, nat_lt};
 ghost use Rattle.atoms.specs.Member.{Lowest, has, set_cmp, size};
 ghost use Rattle.atoms.specs.Sets.{Apart, Sub};
 ghost use Rattle.std.specs.Cmp.{eq_by_cmp_equiv, partial_equiv_from_equiv};
+ghost use Rattle.std.specs.List.{list_any};
 ghost use Rattle.std.specs.Ordering.{eq_by_cmp};
 ghost use Rattle.atoms.specs.Order.{set_cmp_total};
 
 use super::AtomSet;
 use super::word_ops::{
-    and_not_words, and_words, count_digits, low_digit, low_digits, or_words, same_words,
-    with_digit, without_digit,
+    count_digits, first_word, low_digit, low_digits, with_digit, without_digit, zip_words,
 };
 
 impl AtomSet {
@@ -25,12 +25,7 @@ impl AtomSet {
         ensures { (i : ℕ) → has result i ≡ (nat_lt i n && nat_lt i 256) }
     {
         AtomSet {
-            words: [
-                low_digits(n),
-                low_digits(n.saturating_sub(64)),
-                low_digits(n.saturating_sub(128)),
-                low_digits(n.saturating_sub(192)),
-            ],
+            words: [0, 64, 128, 192].map(|first| low_digits(n.saturating_sub(first))),
         }
     }
 
@@ -58,7 +53,7 @@ impl AtomSet {
         ensures { (i : ℕ) → has result i ≡ (has self.now i || has other.now i) }
     {
         AtomSet {
-            words: or_words(&self.words, &other.words),
+            words: zip_words(&self.words, &other.words, |x, y| x | y),
         }
     }
 
@@ -66,7 +61,7 @@ impl AtomSet {
         ensures { (i : ℕ) → has result i ≡ (has self.now i && has other.now i) }
     {
         AtomSet {
-            words: and_words(&self.words, &other.words),
+            words: zip_words(&self.words, &other.words, |x, y| x & y),
         }
     }
 
@@ -75,30 +70,31 @@ impl AtomSet {
         ensures { (i : ℕ) → has result i ≡ (has self.now i && not (has other.now i)) }
     {
         AtomSet {
-            words: and_not_words(&self.words, &other.words),
+            words: zip_words(&self.words, &other.words, |x, y| x & !y),
         }
     }
 
     pub fn is_empty(&self) -> bool
-        ensures { Decides result ((i : ℕ) → has self.now i ≡ false) }
+        ensures { IsTrue result ↔ ((i : ℕ) → has self.now i ≡ false) }
     {
         *self == AtomSet::empty()
     }
 
     pub fn is_subset(&self, other: &AtomSet) -> bool
-        ensures { Decides result (Sub (has self.now) (has other.now)) }
+        ensures { IsTrue result ↔ (Sub (has self.now) (has other.now)) }
     {
         self.minus(other).is_empty()
     }
 
     /// Whether no atom is in both sets.
     pub fn is_disjoint(&self, other: &AtomSet) -> bool
-        ensures { Decides result (Apart (has self.now) (has other.now)) }
+        ensures { IsTrue result ↔ (Apart (has self.now) (has other.now)) }
     {
         self.intersection(other).is_empty()
     }
 
     /// How many atoms the set has.
+    #[tactic(auto, using(crate::proofs::Words::size_words, crate::proofs::Sizes::tally_bound))]
     pub fn count(&self) -> usize
         ensures value { result ≡ size self.now }
         ensures bound { result ≤ 256 }
@@ -110,26 +106,37 @@ impl AtomSet {
     pub fn lowest(&self) -> Option<u8>
         ensures { MatchOption result ((i : ℕ) → has self.now i ≡ false) (λ i. Lowest (has self.now) i) }
     {
-        for k in 0..4 {
-            if self.words[k] != 0 {
-                return Some(64 * k as u8 + low_digit(self.words[k]));
-            }
-        }
-        None
+        let (k, w) = first_word(&self.words)?;
+        Some(64 * k as u8 + low_digit(w))
     }
 }
 
+impl From<&[u8]> for AtomSet {
+    // a number is in the result exactly if it stands among the atoms given
+    ghost from_gives = { λ atoms s. (i : ℕ) → has s i ≡ list_any (λ j. i == j) atoms.now };
+
+    fn from(atoms: &[u8]) -> AtomSet {
+        let mut s = AtomSet::empty();
+        for i in atoms {
+            s.insert(*i);
+        }
+        s
+    }
+}
+
+// By hand: a derived `==` has no clauses, and the law that ties it to `cmp` did not prove.
 impl PartialEq for AtomSet {
     ghost eq = { eq_by_cmp set_cmp };
 
     ghost laws = { partial_equiv_from_equiv (eq_by_cmp_equiv set_cmp_total) };
 
+    #[tactic(auto, using(crate::proofs::Ordered::eq_value, crate::proofs::Ordered::eq_tells))]
     fn eq(&self, other: &AtomSet) -> bool
         ensures value { result ≡ eq_by_cmp set_cmp self.now other.now }
-        ensures same { Decides result (self.now ≡ other.now) }
-        ensures members { Decides result ((i : ℕ) → has self.now i ≡ has other.now i) }
+        ensures same { IsTrue result ↔ (self.now ≡ other.now) }
+        ensures members { IsTrue result ↔ ((i : ℕ) → has self.now i ≡ has other.now i) }
     {
-        same_words(&self.words, &other.words)
+        self.words == other.words
     }
 }
 

@@ -1,10 +1,11 @@
 // Sets in order: of two sets the one that lacks the lowest atom in which they differ comes first.
-ghost use Rattle.std.specs.Prelude.{◌≡◌, ℕ, map, Some, IsSomeAnd, Decides, refl};
+ghost use Rattle.std.specs.Prelude.{◌≡◌, ℕ, drop, map, Some, IsSomeAnd, IsTrue, ◌↔◌, refl};
 ghost use Rattle.atoms.specs.Laws.{CmpLaw, ListLaws, OrderLaws};
 ghost use Rattle.atoms.specs.Member.{differ, has, set_cmp};
 ghost use Rattle.atoms.specs.Sets.{Precedes, Rising};
 ghost use Rattle.std.specs.Cmp.{partial_order_from_total};
-ghost use Rattle.std.specs.Ordering.{MatchOrdering, as_partial_cmp};
+ghost use Rattle.std.specs.Ordering.{MatchOrdering, as_partial_cmp, is_lt};
+ghost use Rattle.std.specs.List.{list_all, zip};
 ghost use Rattle.atoms.specs.Order.{set_cmp_total};
 
 use super::AtomSet;
@@ -13,9 +14,11 @@ use std::cmp::Ordering;
 impl AtomSet {
     /// Whether the set comes before the other.
     pub fn precedes(&self, other: &AtomSet) -> bool
-        ensures value { Decides result (Precedes (has self.now) (has other.now)) }
+        ensures value { IsTrue result ↔ (Precedes (has self.now) (has other.now)) }
+        ensures test { result ≡ is_lt (set_cmp self.now other.now) }
         ensures laws { OrderLaws }
     {
+        // a match: with `is_some_and` the search proved neither outcome
         match self.difference(other).lowest() {
             Some(i) => other.contains(i),
             None => false,
@@ -30,6 +33,7 @@ impl AtomSet {
     }
 }
 
+// By hand, both: a derived order would compare the words as numbers.
 impl PartialOrd for AtomSet {
     ghost partial_cmp = { as_partial_cmp set_cmp };
 
@@ -69,14 +73,20 @@ impl Ord for AtomSet {
 }
 
 /// Whether each set precedes all later ones.
+#[tactic(auto, using(crate::proofs::Ordered::each_below_next_rises, crate::proofs::Ordered::rises_each_below_next))]
 pub fn is_rising(sets: &[AtomSet]) -> bool
-    ensures value { Decides result (Rising (map has sets.now)) }
+    ensures value { IsTrue result ↔ (Rising (map has sets.now)) }
     ensures laws { ListLaws }
 {
-    for k in 1..sets.len() {
-        if !sets[k - 1].precedes(&sets[k]) {
-            return false;
-        }
-    }
-    true
+    each_precedes_next(sets)
+}
+
+// Whether each set precedes the next.
+// By a chain: the clause of `is_sorted_by` is none that the search uses, so an edit here would not be refused by one.
+fn each_precedes_next(sets: &[AtomSet]) -> bool
+    ensures { result ≡ list_all (λ p. is_lt (set_cmp p.0 p.1)) (zip sets.now (drop 1 sets.now)) }
+{
+    sets.iter()
+        .zip(sets.iter().skip(1))
+        .all(|(a, b)| a.precedes(b))
 }

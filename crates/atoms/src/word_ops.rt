@@ -1,31 +1,27 @@
 // What the operations on sets do with their words. A set has four words of 64 digits, and the atom i
 // is the digit i % 64 of the word i / 64.
-ghost use Rattle.std.specs.Prelude.{◌≡◌, ◌+◌, ◌-◌, ◌^◌, ◌<◌, ◌≤◌, min, Decides, ◌≢◌, bit_and, bit_or, count_ones, slice_index};
-ghost use Rattle.atoms.specs.Words.{SameWords, placewise};
+ghost use Rattle.std.specs.Prelude.{◌≡◌, ◌≢◌, ℕ, ◌-◌, ◌^◌, ◌<◌, ◌≤◌, min, MatchOption, bit_and, bit_or, count_ones, slice_index, sum_by};
 ghost use Rattle.std.specs.Int.Count.{count_trailing_zeros};
 
-pub(super) fn or_words(a: &[u64; 4], b: &[u64; 4]) -> [u64; 4]
-    ensures { result ≡ placewise bit_or a.now b.now }
+use std::array;
+
+// The words that f gives for the four places: `array::from_fn` with a clause that the search can use.
+pub(super) fn words_from<F: Fn(usize) -> u64>(f: F) -> [u64; 4]
+    requires { F.IsAlwaysCallable f }
+    ensures { (j : ℕ) → j < 4 → F.post f j (slice_index result j) }
 {
-    [a[0] | b[0], a[1] | b[1], a[2] | b[2], a[3] | b[3]]
+    array::from_fn(|j| f(j))
 }
 
-pub(super) fn and_words(a: &[u64; 4], b: &[u64; 4]) -> [u64; 4]
-    ensures { result ≡ placewise bit_and a.now b.now }
+// The words that f makes of the two words at each place, where f computes w.
+pub(super) fn zip_words<F: Fn(u64, u64) -> u64>(a: &[u64; 4], b: &[u64; 4], f: F) -> [u64; 4]
+    ghost w: { ℕ → ℕ → ℕ }
+    requires callable { F.IsAlwaysCallable f }
+    requires computes { (x y z : ℕ) → F.post f x y z → z ≡ w x y }
+    ensures { (j : ℕ) → j < 4 → slice_index result j ≡ w (slice_index a.now j) (slice_index b.now j) }
 {
-    [a[0] & b[0], a[1] & b[1], a[2] & b[2], a[3] & b[3]]
-}
-
-pub(super) fn and_not_words(a: &[u64; 4], b: &[u64; 4]) -> [u64; 4]
-    ensures { result ≡ placewise (λ x y. bit_and x (2 ^ 64 - 1 - y)) a.now b.now }
-{
-    [a[0] & !b[0], a[1] & !b[1], a[2] & !b[2], a[3] & !b[3]]
-}
-
-pub(super) fn same_words(a: &[u64; 4], b: &[u64; 4]) -> bool
-    ensures { Decides result (SameWords a.now b.now) }
-{
-    a[0] == b[0] && a[1] == b[1] && a[2] == b[2] && a[3] == b[3]
+    // written out: `array::from_fn` takes a quarter longer here
+    [f(a[0], b[0]), f(a[1], b[1]), f(a[2], b[2]), f(a[3], b[3])]
 }
 
 pub(super) fn with_digit(w: u64, k: u8) -> u64
@@ -51,17 +47,18 @@ pub(super) fn low_digits(n: usize) -> u64
 
 // How many digits of the words are set.
 pub(super) fn count_digits(a: &[u64; 4]) -> usize
-    ensures value { result ≡ count_ones (slice_index a.now 0) + count_ones (slice_index a.now 1) + count_ones (slice_index a.now 2) + count_ones (slice_index a.now 3) }
-    ensures bound { result ≤ 256 }
+    requires { sum_by count_ones a.now ≤ 256 }
+    ensures { result ≡ sum_by count_ones a.now }
 {
-    word_count(a[0]) + word_count(a[1]) + word_count(a[2]) + word_count(a[3])
+    a.iter().map(|w| w.count_ones() as usize).sum()
 }
 
-fn word_count(w: u64) -> usize
-    ensures value { result ≡ count_ones w }
-    ensures bound { result ≤ 64 }
+// The place of the first word that is not 0, and that word.
+pub(super) fn first_word(a: &[u64; 4]) -> Option<(usize, u64)>
+    ensures { MatchOption result ((j : ℕ) → j < 4 → slice_index a.now j ≡ 0) (λ p. (p.0 < 4) × (slice_index a.now p.0 ≡ p.1) × (p.1 ≢ 0) × ((j : ℕ) → j < p.0 → slice_index a.now j ≡ 0)) }
 {
-    w.count_ones() as usize
+    let (k, w) = a.iter().enumerate().find(|(_, w)| **w != 0)?;
+    Some((k, *w))
 }
 
 // The place of the lowest digit that is set, and 64 where none is.

@@ -1,7 +1,7 @@
 // Reads a program's bytes from standard input, and prints its account or its refusal.
 #![tactic(auto)]
 
-use account::report::inspect;
+use account::inspect::inspect;
 use std::io;
 use std::io::Read;
 use word_format::bytes::MAX_BYTES;
@@ -12,8 +12,8 @@ fn main(rt: HostRuntime) -> io::Result<()> {
     rt.stdin()
         .take(MAX_BYTES as u64 + 1)
         .read_to_end(&mut bytes)?;
-    match inspect(heap, bytes.as_slice()) {
-        Ok(text) => rt.print(text.as_str()),
+    match inspect(heap, &bytes) {
+        Ok(text) => rt.print(&text),
         Err(refusal) => println!(rt; "{refusal}"),
     }
 }

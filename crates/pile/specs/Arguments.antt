@@ -1,5 +1,5 @@
 -- Steps as arguments: each is `--offset D` or `--select BOX FIRST LAST`.
-use Rattle.std.specs.Prelude.{◌≡◌, ℕ, ◌+◌, ◌-◌, ◌^◌, ◌<◌, ◌≤◌, min, ◌⊎◌, List, [], ◌∷◌, ◌++◌, length, Some, Ok, Err, vec_items, codes, decimal, Result, Vec, ◌≢◌, slice_index_or}
+use Rattle.std.specs.Prelude.{◌≡◌, ℕ, ◌+◌, ◌-◌, ◌^◌, ◌<◌, ◌≤◌, min, ◌⊎◌, List, [], ◌∷◌, ◌++◌, length, Option, Some, None, Ok, Err, vec_items, codes, decimal, Result, Vec, ◌≢◌, slice_index, slice_index_or}
 use Rattle.std.specs.Str.Parse.{ParsesUnsigned}
 use Rattle.std.specs.declared.alloc.Global.{Global}
 use Rattle.program.specs.Refusals.{refused_text}
@@ -66,10 +66,28 @@ FaultAt args i (Refused p e) =
 -- memory may be wanting at any place
 FaultAt args i OutOfMemory = Unit {0}
 
--- what is read of one step at place i
-abbrev pub ReadsStep : List (List ℕ) → ℕ → Result Step ArgumentFault → Type 0
-ReadsStep args i (Ok s) = StepAt args i s
-ReadsStep args i (Err f) = FaultAt args i f
+-- what is read of the step at place i, where the reading ends at place j
+abbrev pub ReadsStep : List (List ℕ) → ℕ → ℕ → Result Step ArgumentFault → Type 0
+ReadsStep args i j (Ok s) = StepAt args i s × (j ≡ i + width s)
+ReadsStep args i j (Err f) = FaultAt args i f
+
+-- the same, or no step where no argument is left
+abbrev pub ReadsNext : List (List ℕ) → ℕ → ℕ → Result (Option Step) ArgumentFault → Type 0
+ReadsNext args i j (Ok None) = (i ≡ length args) × (j ≡ i)
+ReadsNext args i j (Ok (Some s)) = ReadsStep args i j (Ok s)
+ReadsNext args i j (Err f) = FaultAt args i f
+
+-- the first n of these numbers stand after the option at place i
+pub record NumbersAfter (args : List (List ℕ)) (i n : ℕ) (ns : List ℕ) : Type 0 where
+  pub each : (k : ℕ) → k < n → IsNumber (text_at args (i + 1 + k)) (slice_index ns k)
+
+-- why no n numbers stand after the option at place i
+abbrev pub LacksNumbers : List (List ℕ) → ℕ → ℕ → ArgumentFault → Type 0
+LacksNumbers args i n (Unknown p) = ⊥
+LacksNumbers args i n (Incomplete p) = (p ≡ i) × (length args ≤ i + n)
+LacksNumbers args i n (NoNumber p) = (i + n < length args) × (p ≤ i + n) × FirstWrong args i p
+LacksNumbers args i n (Refused p e) = ⊥
+LacksNumbers args i n OutOfMemory = ⊥
 
 -- what is made of the three numbers after the option at place i
 abbrev pub Selects : ℕ → ℕ → ℕ → ℕ → Result Step ArgumentFault → Type 0

@@ -1,16 +1,17 @@
 // Steps as arguments of a command.
-ghost use Rattle.std.specs.Prelude.{◌≡◌, ◌<◌, map, length, Some, string_bytes, codes, MatchResult};
-ghost use Rattle.pile.specs.Arguments.{FaultAt, IsNoNumber, IsNumber, ReadsStep, ReadsSteps, Selects, fault_text, reason_text, text_at, width, words_text};
+ghost use Rattle.std.specs.Prelude.{◌≡◌, ◌+◌, ◌≤◌, map, length, Some, string_bytes, codes, IfErr, IfNone, IfOk, IfSome, MatchResult, OnOk};
+ghost use Rattle.pile.specs.Arguments.{IsNoNumber, IsNumber, LacksNumbers, NumbersAfter, ReadsNext, ReadsStep, ReadsSteps, Selects, fault_text, reason_text, text_at, words_text};
 ghost use Rattle.pile.specs.declared.arguments.ArgumentFault.TheVariants as faults;
 
 use crate::step::Step;
 use program::refusal::Refusal;
 use program::selector::Selector;
 use std::alloc::{AllocFailed, Global};
+use std::error::Error;
 use std::fmt;
 
 /// Why arguments cannot be read. Each case has the place of the argument, counted from 0.
-#[derive(Clone, Copy)]
+#[derive(Clone, Copy, Debug, PartialEq, Eq)]
 pub enum ArgumentFault {
     /// The argument is no option.
     Unknown(usize),
@@ -25,94 +26,120 @@ pub enum ArgumentFault {
 }
 
 /// The steps that the arguments ask for, in order.
+#[tactic(auto, using(crate::proofs::Asked::asks_more))]
 pub fn read_steps(heap: Global, args: &[String]) -> Result<Vec<Step>, ArgumentFault>
     ensures { ReadsSteps (map string_bytes args.now) result }
 {
     let mut steps = Vec::new(heap);
-    let mut i = 0;
-    while i < args.len() {
-        let step = read_step(args, i)?;
+    let mut reader = Reader { args, place: 0 };
+    while let Some(step) = reader.next_step()? {
         steps.push(step)?;
-        i += width_of(step);
     }
     Ok(steps)
 }
 
-/// The step that stands at place i.
-fn read_step(args: &[String], i: usize) -> Result<Step, ArgumentFault>
-    requires { i < length args.now }
-    ensures { ReadsStep (map string_bytes args.now) i result }
-{
-    match text_at(args, i) {
-        "--offset" => read_offset(args, i),
-        "--select" => read_select(args, i),
-        _ => Err(ArgumentFault::Unknown(i)),
+/// The arguments, and the place of the next one to read.
+// A place and no iterator, since faults tell places. That the arguments stay is a clause of each method: behind a
+// `&mut` no ghost field can say it.
+#[derive(Drop)]
+struct Reader<'a> {
+    args: &'a [String],
+    place: usize,
+    ghost within: { place ≤ length args.now },
+}
+
+impl<'a> Reader<'a> {
+    ghost use Rattle.pile.specs.Readers.{texts};
+
+    /// The step that stands next, unless no argument is left.
+    fn next_step(&mut self) -> Result<Option<Step>, ArgumentFault>
+        ensures args { self.new.args.now ≡ self.old.args.now }
+        ensures step { ReadsNext (texts self.old) self.old.place self.new.place result }
+    {
+        let Some(option) = self.args.get(self.place) else {
+            return Ok(None);
+        };
+        // by the option's text
+        let step = match option.as_str() {
+            "--offset" => self.read_offset()?,
+            "--select" => self.read_select()?,
+            _ => return Err(ArgumentFault::Unknown(self.place)),
+        };
+        Ok(Some(step))
+    }
+
+    /// The step of the option --offset, which stands next.
+    fn read_offset(&mut self) -> Result<Step, ArgumentFault>
+        requires { text_at (texts self.old) self.old.place ≡ codes "--offset" }
+        ensures args { self.new.args.now ≡ self.old.args.now }
+        ensures step { ReadsStep (texts self.old) self.old.place self.new.place result }
+    {
+        let [by] = self.read_numbers::<1>()?;
+        Ok(Step::Offset(by))
+    }
+
+    /// The step of the option --select, which stands next.
+    fn read_select(&mut self) -> Result<Step, ArgumentFault>
+        requires { text_at (texts self.old) self.old.place ≡ codes "--select" }
+        ensures args { self.new.args.now ≡ self.old.args.now }
+        ensures step { ReadsStep (texts self.old) self.old.place self.new.place result }
+    {
+        let option = self.place;
+        let [box_atom, first, last] = self.read_numbers::<3>()?;
+        select(option, box_atom, first, last)
+    }
+
+    /// The N numbers after the option that stands next.
+    fn read_numbers<const N: usize>(&mut self) -> Result<[usize; N], ArgumentFault>
+        ensures args { self.new.args.now ≡ self.old.args.now }
+        ensures place { OnOk result (self.new.place ≡ self.old.place + (N + 1)) }
+        ensures numbers { IfOk result (NumbersAfter (texts self.old) self.old.place N) }
+        ensures fault { IfErr result (LacksNumbers (texts self.old) self.old.place N) }
+    {
+        if self.args.len() - self.place <= N {
+            return Err(ArgumentFault::Incomplete(self.place));
+        }
+        self.place += 1;
+        let mut numbers = [0; N];
+        for number in &mut numbers {
+            *number = self.next_number()?;
+        }
+        Ok(numbers)
+    }
+
+    fn next_number(&mut self) -> Result<usize, ArgumentFault>
+        ensures args { self.new.args.now ≡ self.old.args.now }
+        ensures place { OnOk result (self.new.place ≡ self.old.place + 1) }
+        ensures number { IfOk result (IsNumber (text_at (texts self.old) self.old.place)) }
+        ensures fault { IfErr result (λ f. (f ≡ faults.NoNumber self.old.place) × IsNoNumber (text_at (texts self.old) self.old.place)) }
+    {
+        let place = self.place;
+        self.next_text()
+            .and_then(|text| text.parse().ok())
+            .ok_or(ArgumentFault::NoNumber(place))
+    }
+
+    fn next_text(&mut self) -> Option<&'a str>
+        ensures args { self.new.args.now ≡ self.old.args.now }
+        ensures none { IfNone result (self.old.place ≡ length self.old.args.now) }
+        ensures some { IfSome result (λ t. (t.now ≡ text_at (texts self.old) self.old.place) × (self.new.place ≡ self.old.place + 1)) }
+    {
+        let text = self.args.get(self.place)?;
+        self.place += 1;
+        Some(text.as_str())
     }
 }
 
-fn read_offset(args: &[String], i: usize) -> Result<Step, ArgumentFault>
-    requires within { i < length args.now }
-    requires option { text_at (map string_bytes args.now) i ≡ codes "--offset" }
-    ensures { ReadsStep (map string_bytes args.now) i result }
+/// The selector of these numbers, which stand after the option at this place.
+fn select(option: usize, box_atom: usize, first: usize, last: usize) -> Result<Step, ArgumentFault>
+    ensures { Selects option box_atom first last result }
 {
-    if args.len() - i <= 1 {
-        return Err(ArgumentFault::Incomplete(i));
-    }
-    let by = read_number(args, i + 1)?;
-    Ok(Step::Offset(by))
+    Selector::new(box_atom, first, last)
+        .map(Step::Select)
+        .map_err(|refusal| ArgumentFault::Refused(option, refusal))
 }
 
-fn read_select(args: &[String], i: usize) -> Result<Step, ArgumentFault>
-    requires within { i < length args.now }
-    requires option { text_at (map string_bytes args.now) i ≡ codes "--select" }
-    ensures { ReadsStep (map string_bytes args.now) i result }
-{
-    if args.len() - i <= 3 {
-        return Err(ArgumentFault::Incomplete(i));
-    }
-    let box_atom = read_number(args, i + 1)?;
-    let first = read_number(args, i + 2)?;
-    let last = read_number(args, i + 3)?;
-    select(i, box_atom, first, last)
-}
-
-/// The selector of these numbers, which stand after the option at place i.
-fn select(i: usize, box_atom: usize, first: usize, last: usize) -> Result<Step, ArgumentFault>
-    ensures { Selects i box_atom first last result }
-{
-    match Selector::new(box_atom, first, last) {
-        Ok(selector) => Ok(Step::Select(selector)),
-        Err(refusal) => Err(ArgumentFault::Refused(i, refusal)),
-    }
-}
-
-fn read_number(args: &[String], i: usize) -> Result<usize, ArgumentFault>
-    requires { i < length args.now }
-    ensures { MatchResult result (λ n. IsNumber (text_at (map string_bytes args.now) i) n) (λ f. (f ≡ faults.NoNumber i) × IsNoNumber (text_at (map string_bytes args.now) i)) }
-{
-    match text_at(args, i).parse::<usize>() {
-        Ok(number) => Ok(number),
-        Err(_) => Err(ArgumentFault::NoNumber(i)),
-    }
-}
-
-fn text_at(args: &[String], i: usize) -> &str
-    requires { i < length args.now }
-    ensures { result.now ≡ text_at (map string_bytes args.now) i }
-{
-    args[i].as_str()
-}
-
-/// How many arguments a step takes.
-fn width_of(step: Step) -> usize
-    ensures { result ≡ width step }
-{
-    match step {
-        Step::Offset(_) => 2,
-        Step::Select(_) => 4,
-    }
-}
-
+// By hand, since clauses name the fault that `?` makes and a derived one promises nothing.
 impl<T: Drop> From<AllocFailed<T>> for ArgumentFault {
     ghost from_gives = { λ _ f. f ≡ faults.OutOfMemory };
 
@@ -120,6 +147,8 @@ impl<T: Drop> From<AllocFailed<T>> for ArgumentFault {
         Self::OutOfMemory
     }
 }
+
+impl Error for ArgumentFault {}
 
 /// One line, with places counted from 1.
 impl fmt::Display for ArgumentFault {
@@ -129,13 +158,9 @@ impl fmt::Display for ArgumentFault {
         let words = words_of(*self);
         match *self {
             ArgumentFault::Unknown(i) | ArgumentFault::Incomplete(i) | ArgumentFault::NoNumber(i) =>
-                {
-                    let place = i.saturating_add(1);
-                    write!(f, "argument {place}: {words}")
-                }
+                { write!(f, "argument {}: {words}", i.saturating_add(1)) }
             ArgumentFault::Refused(i, refusal) => {
-                let place = i.saturating_add(1);
-                write!(f, "argument {place}: {refusal}{words}")
+                write!(f, "argument {}: {refusal}{words}", i.saturating_add(1))
             }
             ArgumentFault::OutOfMemory => f.write_str(words),
         }

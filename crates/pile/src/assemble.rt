@@ -1,19 +1,24 @@
 // A pile from a source and steps.
 ghost use Rattle.pile.specs.Steps.{piled, stepped};
-ghost use Rattle.program.specs.Tables.{loaded_meaning};
-ghost use Rattle.std.specs.Prelude.{◌≡◌, MatchResult};
+ghost use Rattle.program.specs.Meanings.{program};
+ghost use Rattle.program.specs.Tables.{Loads, tabled};
 
 use crate::step::Step;
-use program::load::{Loaded, load};
+use program::load::load;
 use program::offset::Offset;
 use program::refusal::Refusal;
 use program::source::RuleSource;
+use program::table::RuleTable;
 use program::union::Union;
 use std::alloc::Global;
 
 /// The source after these steps, in order, loaded.
-pub fn assemble<S: RuleSource>(heap: Global, source: &S, steps: &[Step]) -> Result<Loaded, Refusal>
-    ensures { MatchResult result (λ l. loaded_meaning l ≡ piled steps.now (S.RuleSource.meaning source.now)) (λ e. e ≡ Refusal.OutOfMemory) }
+pub fn assemble<S: RuleSource>(
+    heap: Global,
+    source: &S,
+    steps: &[Step],
+) -> Result<RuleTable, Refusal>
+    ensures { Loads (piled steps.now (S.RuleSource.meaning source.now)) result }
 {
     let mut pile = load(heap, source)?;
     for step in steps {
@@ -23,9 +28,10 @@ pub fn assemble<S: RuleSource>(heap: Global, source: &S, steps: &[Step]) -> Resu
 }
 
 /// The pile after one step more.
-fn add(heap: Global, pile: &Loaded, step: Step) -> Result<Loaded, Refusal>
-    ensures { MatchResult result (λ l. loaded_meaning l ≡ stepped step (loaded_meaning pile.now)) (λ e. e ≡ Refusal.OutOfMemory) }
+fn add(heap: Global, pile: &RuleTable, step: Step) -> Result<RuleTable, Refusal>
+    ensures { Loads (stepped step (program (tabled pile.now))) result }
 {
+    // a match on two kinds, which are closed: each makes a source of another type
     match step {
         Step::Offset(by) => load(heap, &Offset { source: pile, by }),
         Step::Select(selector) => load(

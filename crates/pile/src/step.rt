@@ -2,7 +2,7 @@
 use program::selector::Selector;
 
 /// What is done to a source.
-#[derive(Clone, Copy)]
+#[derive(Clone, Copy, Debug)]
 pub enum Step {
     /// Every atom is moved up by so many.
     Offset(usize),

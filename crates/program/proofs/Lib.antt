@@ -3,3 +3,4 @@ pub mod Held
 pub mod Outlets
 pub mod Tables
 pub mod Offsets
+pub mod Iterations

@@ -1,11 +1,16 @@
 -- The rules of a selector.
-use Rattle.std.proofs.Common.{◌≡◌, ℕ, zero, suc, ◌+◌, ◌-◌, ◌*◌, ◌/◌, ◌<◌, ◌≤◌, true, not, ◌&&◌, ltb, leb, List, ◌∷◌, ◌++◌, length, get_or, sym, refl, ap, ◌∙◌, suc-mul, mul-suc, add-one, arith}
-use Rattle.std.proofs.lemmas.List.{length-append, get_or_append_left, get_or-append_right}
-use Rattle.std.proofs.lemmas.Bool.{lt-ltb, le-ltb, ltb-true, ltb-false}
+use Rattle.std.proofs.Common.{◌≡◌, ℕ, zero, suc, ◌+◌, ◌-◌, ◌*◌, ◌/◌, ◌<◌, ◌≤◌, true, false, not, ◌&&◌, ltb, leb, List, ◌∷◌, ◌++◌, Some, None, length, slice_get, get_or, sym, refl, ap, ◌∙◌, suc-mul, mul-suc, add-one, arith}
+use Rattle.std.proofs.lemmas.Grind.{common_steps}
+use Rattle.std.proofs.lemmas.List.{length-append, get_or_past}
+use Rattle.std.proofs.lemmas.Option.{gets, slice_get_within, get_or_from_slice_get}
+use Rattle.std.proofs.lemmas.Bool.{lt-ltb, le-ltb}
 use Rattle.std.proofs.lemmas.Bool.Decides.{nat_tests}
 use Rattle.atoms.specs.Member.{has}
 use Rattle.atoms.specs.declared.AtomSet.{AtomSet}
 use Rattle.program.specs.Programs.{Rule}
+use Rattle.program.specs.Rules.{as_rule, Holds}
+use Rattle.program.specs.declared.rule.Rule.{Rule as RuleValue}
+use Rattle.program.proofs.Held.{held}
 use Rattle.program.specs.Selectors.{span, exclusion, exclusions_of, exclusions}
 use Rattle.program.specs.SelectorLimits.{exclusions_of_length}
 
@@ -36,55 +41,59 @@ pair_count f l n o e =
     let y : n ≡ suc m * m / 2 = e ∙ rw (x, add-one m) in
     rw q (omega arith)
 
-exclusions_of_read : (i j m k : ℕ) (d : Rule) → k < m → get_or (exclusions_of i j m) k d ≡ exclusion i (j + k)
-exclusions_of_read i j zero k d l = absurd (omega arith)
-exclusions_of_read i j (suc m) zero d l = let e : j + 0 ≡ j = omega arith in rw e
-exclusions_of_read i j (suc m) (suc k) d l = let e : suc j + k ≡ j + suc k = omega arith in exclusions_of_read i (suc j) m k d (omega arith) ∙ ap (exclusion i) e
+-- Rule k of the pairs with i, which come before others.
+module _ (others : List Rule) where
+  row_here : (i j m k : ℕ) → k < m → slice_get (exclusions_of i j m ++ others) k ≡ Some (exclusion i (j + k))
+  row_here i j zero k l = absurd (omega arith)
+  row_here i j (suc m) zero l = let e : j + 0 ≡ j = omega arith in rw e
+  row_here i j (suc m) (suc k) l = let e : suc j + k ≡ j + suc k = omega arith in rw (← e) (row_here i (suc j) m k (omega arith))
 
--- The pair at k of all is the pair at `rest` of those from `low` on.
-abbrev pub PairAt : List Rule → ℕ → List Rule → ℕ → Type 0
-PairAt all k left rest = (ltb k (length all) ≡ ltb rest (length left)) × ((d : Rule) → get_or all k d ≡ get_or left rest d)
+  row_past : (i j m k : ℕ) → m ≤ k → slice_get (exclusions_of i j m ++ others) k ≡ slice_get others (k - m)
+  row_past i j zero k l = let e : k - 0 ≡ k = omega arith in rw e
+  row_past i j (suc m) zero l = absurd (omega arith)
+  row_past i j (suc m) (suc k) l = let e : suc k - suc m ≡ k - m = omega arith in rw e (row_past i (suc j) m k (omega arith))
 
-module _ (all : List Rule) (k low last rest : ℕ) (at : PairAt all k (exclusions low (last + 1 - low)) rest) where
-  -- those with `low`, and the others
-  parted : low < last → PairAt all k (exclusions_of low (suc low) (last - low) ++ exclusions (suc low) (last - low)) rest
-  parted l = let e : last + 1 - low ≡ suc (last - low) = omega arith in rw e at at
-
-  pub pair_here : low < last → rest < last - low → (k < length all) × ((d : Rule) → get_or all k d ≡ exclusion low (low + 1 + rest))
+-- Rule `rest` of the pairs from `low` on.
+module _ (low last rest : ℕ) where
+  pub pair_here : low < last → rest < last - low → slice_get (exclusions low (last + 1 - low)) rest ≡ Some (exclusion low (low + 1 + rest))
   pair_here l r =
-      let row = exclusions_of low (suc low) (last - low) in
-      let others = exclusions (suc low) (last - low) in
-      let p = parted l in
-      let long = exclusions_of_length low (suc low) (last - low) in
-      let in' : ltb rest (length (row ++ others)) ≡ true = lt-ltb rest (length (row ++ others)) (omega (arith, length-append row others)) in
-      let e : suc low + rest ≡ low + 1 + rest = omega arith in
-      (ltb-true k (length all) (p.0 ∙ in'), λ d. p.1 d ∙ get_or_append_left row others d rest (omega arith) ∙ exclusions_of_read low (suc low) (last - low) rest d r ∙ ap (exclusion low) e)
+      let e : last + 1 - low ≡ suc (last - low) = omega arith in
+      let f : low + 1 + rest ≡ suc low + rest = omega arith in
+      rw (e, f) (row_here (exclusions (suc low) (last - low)) low (suc low) (last - low) rest r)
 
-  pub pair_later : low < last → last - low ≤ rest → PairAt all k (exclusions (low + 1) (last + 1 - (low + 1))) (rest - (last - low))
+  pub pair_later : low < last → last - low ≤ rest → slice_get (exclusions low (last + 1 - low)) rest ≡ slice_get (exclusions (low + 1) (last + 1 - (low + 1))) (rest - (last - low))
   pair_later l r =
-      let row = exclusions_of low (suc low) (last - low) in
-      let others = exclusions (suc low) (last - low) in
-      let p = parted l in
-      let long = exclusions_of_length low (suc low) (last - low) in
-      let e : last + 1 - (low + 1) ≡ last - low = omega arith in
-      let f : low + 1 ≡ suc low = add-one low in
-      let same : ltb rest (length (row ++ others)) ≡ ltb (rest - (last - low)) (length others) = grind (arith, nat_tests, length-append row others) in
-      rw (e, f) (p.0 ∙ same, λ d. p.1 d ∙ get_or-append_right row others (last - low) rest d long r)
+      let e : last + 1 - low ≡ suc (last - low) = omega arith in
+      let f : last + 1 - (low + 1) ≡ last - low = omega arith in
+      let g : low + 1 ≡ suc low = omega arith in
+      rw (f, e, g) (row_past (exclusions (suc low) (last - low)) low (suc low) (last - low) rest r)
 
-  pub pair_past : last ≤ low → length all ≤ k
-  pair_past l = ltb-false k (length all) (at.0 ∙ le-ltb rest (length (exclusions low (last + 1 - low))) (omega (arith, none (last + 1 - low) (omega arith))))
+  pub pair_past : last ≤ low → slice_get (exclusions low (last + 1 - low)) rest ≡ None
+  pair_past l = none (last + 1 - low) (omega arith)
     where
-      none : (m : ℕ) → m ≤ 1 → length (exclusions low m) ≡ 0
+      none : (m : ℕ) → m ≤ 1 → slice_get (exclusions low m) rest ≡ None
       none zero h = refl
       none (suc zero) h = refl
       none (suc (suc m)) h = absurd (omega arith)
 
--- a first rule, and others after it
-module _ (first : Rule) (others : List Rule) (k : ℕ) (p r : Rule) where
-  pub first_rule : k ≡ 0 → r ≡ first → (true ≡ ltb k (suc (length others))) × (r ≡ get_or (first ∷ others) k p)
-  first_rule z e = (sym (lt-ltb k (suc (length others)) (omega arith)), e ∙ ap (λ (i : ℕ). get_or (first ∷ others) i p) (sym z))
+-- A first rule, and others after it.
+module _ (first : Rule) (others : List Rule) (p : Rule) where
+  pub first_rule : (k : ℕ) (r : RuleValue) → k ≡ 0 → Holds r first → as_rule r ≡ get_or (first ∷ others) k p
+  first_rule k r z h = rw z (held r first h)
 
-  pub later_rule : (q : Rule) → (k ≡ 0 → ⊥) → (k - 1 < length others) × ((d : Rule) → get_or others (k - 1) d ≡ q) → r ≡ q → (true ≡ ltb k (suc (length others))) × (r ≡ get_or (first ∷ others) k p)
-  later_rule q n (l, at) e =
-      let s : k ≡ suc (k - 1) = omega arith in
-      (sym (lt-ltb k (suc (length others)) (omega arith)), e ∙ sym (at p) ∙ ap (λ (i : ℕ). get_or (first ∷ others) i p) (sym s))
+  pub later_test : (k : ℕ) (q : Rule) → (k ≡ 0 → ⊥) → slice_get others (k - 1) ≡ Some q → true ≡ ltb k (suc (length others))
+  later_test zero q n at = absurd (n refl)
+  later_test (suc k) q n at = let l = slice_get_within others (suc k - 1) q at in sym (lt-ltb (suc k) (suc (length others)) (omega arith))
+
+  pub later_rule : (k : ℕ) (q : Rule) (r : RuleValue) → (k ≡ 0 → ⊥) → slice_get others (k - 1) ≡ Some q → Holds r q → as_rule r ≡ get_or (first ∷ others) k p
+  later_rule zero q r n at h = absurd (n refl)
+  later_rule (suc k) q r n at h = let e : suc k - 1 ≡ k = omega arith in held r q h ∙ sym (get_or_from_slice_get others k q p (rw e at at))
+
+  long : (k : ℕ) → slice_get others k ≡ None → length others ≤ k
+  long k at = grind (arith, common_steps, gets)
+
+  pub past_test : (k : ℕ) → (k ≡ 0 → ⊥) → slice_get others (k - 1) ≡ None → false ≡ ltb k (suc (length others))
+  past_test k n at = let l = long (k - 1) at in sym (le-ltb k (suc (length others)) (omega arith))
+
+  pub past_rule : (k : ℕ) → (k ≡ 0 → ⊥) → slice_get others (k - 1) ≡ None → p ≡ get_or (first ∷ others) k p
+  past_rule k n at = let l = long (k - 1) at in sym (get_or_past (first ∷ others) k p (omega arith))

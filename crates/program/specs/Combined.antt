@@ -1,5 +1,5 @@
 -- What sources mean that are made of others.
-use Rattle.std.specs.Prelude.{ℕ, ◌+◌, ◌-◌, max, cond, ◌&&◌, ◌++◌, map, length, nat_le}
+use Rattle.std.specs.Prelude.{ℕ, ◌+◌, ◌-◌, max, if◌then◌else◌, ◌&&◌, ◌++◌, map, length, nat_le}
 use Rattle.atoms.specs.Sets.{Atoms}
 use Rattle.program.specs.Programs.{Rule, Program}
 use Rattle.program.specs.Meanings.{Meaning, overfull, program}
@@ -12,7 +12,7 @@ joint P Q = record { atoms = max P.atoms Q.atoms; rules = P.rules ++ Q.rules }
 abbrev pub united : Meaning → Meaning → Meaning
 united overfull b = overfull
 united (program P) overfull = overfull
-united (program P) (program Q) = cond (nat_le (length P.rules + length Q.rules) 1024) (program (joint P Q)) overfull
+united (program P) (program Q) = if nat_le (length P.rules + length Q.rules) 1024 then program (joint P Q) else overfull
 
 -- the atoms i + d for each atom i of X
 abbrev pub raised : ℕ → Atoms → Atoms
@@ -27,4 +27,4 @@ raised_program d P = record { atoms = P.atoms + d; rules = map (raised_rule d) P
 -- overfull if the source is, or if there are more than 256 atoms then
 abbrev pub offset_by : ℕ → Meaning → Meaning
 offset_by d overfull = overfull
-offset_by d (program P) = cond (nat_le (P.atoms + d) 256) (program (raised_program d P)) overfull
+offset_by d (program P) = if nat_le (P.atoms + d) 256 then program (raised_program d P) else overfull

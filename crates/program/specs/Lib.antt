@@ -5,6 +5,6 @@ pub mod Meanings
 pub mod Combined
 pub mod Selectors
 pub mod Tables
-pub mod Turns
+pub mod Iterated
 pub mod Limits
 pub mod SelectorLimits

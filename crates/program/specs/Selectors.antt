@@ -1,5 +1,5 @@
 -- Selectors: while the box is on, exactly one of its outlets is on.
-use Rattle.std.specs.Prelude.{ℕ, zero, suc, ◌+◌, ◌-◌, max, cond, ◌&&◌, ◌||◌, List, [], ◌∷◌, ◌++◌, Some, None, Option, ◌==◌, nat_le, nat_lt}
+use Rattle.std.specs.Prelude.{ℕ, zero, suc, ◌+◌, ◌-◌, max, if◌then◌else◌, ◌&&◌, ◌||◌, List, [], ◌∷◌, ◌++◌, Some, None, Option, ◌==◌, nat_le, nat_lt}
 use Rattle.atoms.specs.Sets.{Atoms, none}
 use Rattle.program.specs.declared.refusal.Refusal.{Refusal}
 use Rattle.program.specs.declared.refusal.Refusal.TheVariants.{AtomTooHigh, BadOutlets, BoxAmongOutlets}
@@ -10,9 +10,9 @@ use Rattle.program.specs.Meanings.{Meaning, program}
 -- the fault of the box b with the outlets f to l: the first test that fails
 abbrev pub selector_fault : ℕ → ℕ → ℕ → Option Refusal
 selector_fault b f l =
-    cond (nat_lt 255 b || (nat_lt 255 f || nat_lt 255 l)) (Some AtomTooHigh)
-    (cond (nat_lt l f || nat_lt 32 (l + 1 - f)) (Some BadOutlets)
-    (cond (nat_le f b && nat_le b l) (Some BoxAmongOutlets) None))
+    if nat_lt 255 b || (nat_lt 255 f || nat_lt 255 l) then Some AtomTooHigh
+    else (if nat_lt l f || nat_lt 32 (l + 1 - f) then Some BadOutlets
+    else (if nat_le f b && nat_le b l then Some BoxAmongOutlets else None))
 
 -- the atoms from f to l
 abbrev pub span : ℕ → ℕ → Atoms

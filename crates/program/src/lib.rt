@@ -8,6 +8,7 @@ pub mod memory;
 pub mod offset;
 pub mod refusal;
 pub mod rule;
+pub mod rules;
 pub mod selector;
 pub mod source;
 pub mod table;

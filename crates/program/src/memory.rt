@@ -6,6 +6,7 @@ use crate::refusal::Refusal;
 use std::alloc::{AllocError, AllocFailed};
 use std::fmt;
 
+// Each `From` is by hand, since clauses name the refusal that `?` makes and a derived one promises nothing.
 impl From<AllocError> for Refusal {
     ghost from_gives = { λ _ r. r ≡ OutOfMemory };
 
@@ -22,7 +23,7 @@ impl<T: Drop> From<AllocFailed<T>> for Refusal {
     }
 }
 
-// A `String` fails to be written to only for want of memory.
+// A text in memory fails to be written to only for want of memory. No crate here asks for it: it is promised to callers.
 impl From<fmt::Error> for Refusal {
     ghost from_gives = { λ _ r. r ≡ OutOfMemory };
 

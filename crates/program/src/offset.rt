@@ -1,9 +1,10 @@
 // A source with every atom moved up.
-ghost use Rattle.std.specs.Prelude.{◌≡◌, ◌+◌, nat_le};
+ghost use Rattle.std.specs.Prelude.{◌≡◌, ◌+◌, ◌≤◌, SomeIff};
 ghost use Rattle.program.specs.Combined.{offset_by};
 ghost use Rattle.program.specs.Limits.{offset_small};
+ghost use Rattle.program.specs.Meanings.{atom_count};
 
-use crate::limits::{MAX_ATOMS, MAX_RULES, OVERFULL};
+use crate::limits::{MAX_ATOMS, OVERFULL};
 use crate::rule::Rule;
 use crate::source::RuleSource;
 
@@ -20,22 +21,21 @@ impl<S: RuleSource> RuleSource for Offset<S> {
     ghost small = { λ s. offset_small s.by _ (S.RuleSource.small s.source) };
 
     fn atom_count(&self) -> usize {
-        let atoms = self.source.atom_count();
-        if self.source.rule_count() > MAX_RULES || !has_room(atoms, self.by) {
+        if self.source.is_overfull() {
             return 0;
         }
-        atoms + self.by
+        self.moved_count().unwrap_or(0)
     }
 
     fn rule_count(&self) -> usize {
-        if !has_room(self.source.atom_count(), self.by) {
-            return OVERFULL;
+        match self.moved_count() {
+            Some(_) => self.source.rule_count(),
+            None => OVERFULL,
         }
-        self.source.rule_count()
     }
 
     fn rule(&self, k: usize, place: &mut Rule) -> bool {
-        if !has_room(self.source.atom_count(), self.by) {
+        if self.moved_count().is_none() {
             return false;
         }
         let mut found = *place;
@@ -47,9 +47,12 @@ impl<S: RuleSource> RuleSource for Offset<S> {
     }
 }
 
-/// Whether a program may have so many atoms together.
-fn has_room(atoms: usize, more: usize) -> bool
-    ensures { result ≡ nat_le (atoms + more) 256 }
-{
-    more <= MAX_ATOMS && atoms <= MAX_ATOMS - more
+impl<S: RuleSource> Offset<S> {
+    /// The number of atoms, if a program may have as many.
+    fn moved_count(&self) -> Option<usize>
+        ensures { let n = atom_count (S.RuleSource.meaning self.now.source) + self.now.by in SomeIff result (n ≤ 256) n }
+    {
+        let count = self.source.atom_count().checked_add(self.by)?;
+        (count <= MAX_ATOMS).then_some(count)
+    }
 }

@@ -2,38 +2,40 @@
 ghost use Rattle.program.specs.Refusals.{code_of, refused_text};
 ghost use Rattle.std.specs.Prelude.{◌≡◌, Some};
 
+use std::error::Error;
 use std::fmt;
 
+/// Why a call on programs and sources is refused, or that memory was wanting.
 #[derive(Clone, Copy, Debug, PartialEq, Eq)]
 pub enum Refusal {
     /// There are no words, or the first is not of the kind end.
-    BadHeader,
+    BadHeader = 11,
     /// The header counts more than 256 atoms.
-    TooManyAtoms,
+    TooManyAtoms = 12,
     /// A head, need or bar is no atom of the program.
-    NoSuchAtom,
+    NoSuchAtom = 13,
     /// A part of a rule stands after one of a later kind, or its numbers do not rise.
-    OutOfOrder,
+    OutOfOrder = 14,
     /// An end word has another number than 0.
-    BadEnd,
+    BadEnd = 15,
     /// The last rule has no end word.
-    Unfinished,
+    Unfinished = 16,
     /// There are more than 1,024 rules.
-    TooManyRules,
+    TooManyRules = 17,
     /// There are more than 16,384 words.
-    TooLong,
+    TooLong = 18,
     /// The source has more atoms or rules than a program may have.
-    Overfull,
+    Overfull = 21,
     /// The bytes are no whole number of words.
-    PartialWord,
+    PartialWord = 31,
     /// An atom of a selector is above 255.
-    AtomTooHigh,
+    AtomTooHigh = 41,
     /// A selector's first outlet is above its last, or it has more than 32.
-    BadOutlets,
+    BadOutlets = 42,
     /// A selector's box is one of its outlets.
-    BoxAmongOutlets,
+    BoxAmongOutlets = 43,
     /// There was no memory for the answer.
-    OutOfMemory,
+    OutOfMemory = 99,
 }
 
 impl Refusal {
@@ -41,24 +43,11 @@ impl Refusal {
     pub fn code(self) -> u32
         ensures { result ≡ code_of self }
     {
-        match self {
-            Refusal::BadHeader => 11,
-            Refusal::TooManyAtoms => 12,
-            Refusal::NoSuchAtom => 13,
-            Refusal::OutOfOrder => 14,
-            Refusal::BadEnd => 15,
-            Refusal::Unfinished => 16,
-            Refusal::TooManyRules => 17,
-            Refusal::TooLong => 18,
-            Refusal::Overfull => 21,
-            Refusal::PartialWord => 31,
-            Refusal::AtomTooHigh => 41,
-            Refusal::BadOutlets => 42,
-            Refusal::BoxAmongOutlets => 43,
-            Refusal::OutOfMemory => 99,
-        }
+        self as u32
     }
 }
+
+impl Error for Refusal {}
 
 /// `refused` with a space and the number.
 impl fmt::Display for Refusal {

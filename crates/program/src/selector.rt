@@ -5,6 +5,7 @@ pub mod answers;
 pub mod make;
 
 /// A box atom, and the outlets from the first to the last.
+// The outlets are two fields: a `RangeInclusive` is not `Copy`, and the clauses of `new` name first and last.
 #[derive(Clone, Copy, Debug)]
 pub struct Selector {
     box_atom: u8,

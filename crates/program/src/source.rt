@@ -1,11 +1,15 @@
 // Where rules come from.
-ghost use Rattle.program.specs.Meanings.{Meaning, Small, atom_count, rule_count, rules_of};
+ghost use Rattle.program.specs.Meanings.{Meaning, Small, atom_count, overfull, rule_count, rules_of};
+ghost use Rattle.program.specs.Iterated.{rules_left};
 ghost use Rattle.program.specs.Rules.{as_rule};
-ghost use Rattle.std.specs.Prelude.{◌≡◌, length, nat_lt, slice_index_or};
+ghost use Rattle.std.specs.Prelude.{◌≡◌, ◌↔◌, IsTrue, length, nat_lt, slice_index_or};
 
+use crate::limits::MAX_RULES;
 use crate::rule::Rule;
+use crate::rules::Rules;
 
 /// A source of rules. No question alters it.
+// docs/RULES.md fixes the three answers: also 0 and 1,025 for overfull, and the yes beside a place, where an `Option` could stand.
 pub trait RuleSource {
     // overfull, or a number of atoms and a list of rules
     ghost meaning: { Self → Meaning };
@@ -25,4 +29,24 @@ pub trait RuleSource {
     fn rule(&self, k: usize, place: &mut Rule) -> bool
         ensures test { result ≡ nat_lt k (length (rules_of (meaning self.now))) }
         ensures after { as_rule place.new ≡ slice_index_or (rules_of (meaning self.now)) k (as_rule place.old) };
+
+    /// Whether there are too many atoms or rules.
+    #[tactic(auto, using(crate::proofs::Meant::over))]
+    final fn is_overfull(&self) -> bool
+        ensures { IsTrue result ↔ (meaning self.now ≡ overfull) }
+    {
+        self.rule_count() > MAX_RULES
+    }
+
+    /// The rules in order; none when overfull.
+    final fn iter(&self) -> Rules<'_, Self>
+    where
+        Self: Sized,
+        ensures { rules_left meaning result ≡ rules_of (meaning self.now) }
+    {
+        Rules {
+            source: self,
+            next: 0,
+        }
+    }
 }

@@ -1,8 +1,8 @@
 // Two sources, the rules of the one and then those of the other.
-ghost use Rattle.std.specs.Prelude.{◌≡◌, ◌+◌, ◌≤◌, if◌then◌else◌, nat_le};
+ghost use Rattle.std.specs.Prelude.{◌+◌, ◌≤◌, SomeIff};
 ghost use Rattle.program.specs.Combined.{united};
 ghost use Rattle.program.specs.Limits.{united_small};
-ghost use Rattle.program.specs.Turns.{TurnAt};
+ghost use Rattle.program.specs.Meanings.{rule_count};
 
 use crate::limits::{MAX_RULES, OVERFULL};
 use crate::rule::Rule;
@@ -21,52 +21,34 @@ impl<A: RuleSource, B: RuleSource> RuleSource for Union<A, B> {
     ghost small = { λ s. united_small _ _ (A.RuleSource.small s.first) (B.RuleSource.small s.second) };
 
     fn atom_count(&self) -> usize {
-        if self.rule_count() > MAX_RULES {
+        if self.joint_count().is_none() {
             return 0;
         }
         self.first.atom_count().max(self.second.atom_count())
     }
 
     fn rule_count(&self) -> usize {
-        joint_count(self.first.rule_count(), self.second.rule_count())
+        self.joint_count().unwrap_or(OVERFULL)
     }
 
     fn rule(&self, k: usize, place: &mut Rule) -> bool {
-        if self.rule_count() > MAX_RULES {
+        if self.joint_count().is_none() {
             return false;
         }
-        match turn_at(k, self.first.rule_count()) {
-            Turn::First(k) => self.first.rule(k, place),
-            Turn::Second(k) => self.second.rule(k, place),
+        match k.checked_sub(self.first.rule_count()) {
+            None => self.first.rule(k, place),
+            Some(later) => self.second.rule(later, place),
         }
     }
 }
 
-/// Which of two lists, one after the other, has what stands at a place of both together, and where.
-#[derive(Clone, Copy)]
-enum Turn {
-    First(usize),
-    Second(usize),
-}
-
-/// Where the place k is, if the first list has so many.
-fn turn_at(k: usize, first: usize) -> Turn
-    ensures { TurnAt k first result }
-{
-    if k < first {
-        return Turn::First(k);
+impl<A: RuleSource, B: RuleSource> Union<A, B> {
+    /// The number of rules, if a program may have as many.
+    fn joint_count(&self) -> Option<usize>
+        ensures { let n = rule_count (A.RuleSource.meaning self.now.first) + rule_count (B.RuleSource.meaning self.now.second) in
+            SomeIff result (n ≤ 1024) n }
+    {
+        let count = self.first.rule_count() + self.second.rule_count();
+        (count <= MAX_RULES).then_some(count)
     }
-    Turn::Second(k - first)
-}
-
-/// Both counts together, if a program may have as many rules.
-fn joint_count(first: usize, second: usize) -> usize
-    requires first_bound { first ≤ 1025 }
-    requires second_bound { second ≤ 1025 }
-    ensures { result ≡ (if nat_le (first + second) 1024 then first + second else 1025) }
-{
-    if first + second > MAX_RULES {
-        return OVERFULL;
-    }
-    first + second
 }

@@ -2,31 +2,23 @@
 use atoms::AtomSet;
 use program::refusal::Refusal;
 use program::rule::Rule;
+use program::source::RuleSource;
 use std::alloc::Global;
+pub(crate) use word_format::word::{BAR, END, END as HEADER, NEED};
 use word_format::words::WordProgram;
-
-pub(crate) const HEADER: u32 = 0xC000_0000;
-
-pub(crate) const END: u32 = 0xC000_0000;
-
-pub(crate) const NEED: u32 = 0x4000_0000;
-
-pub(crate) const BAR: u32 = 0x8000_0000;
-
-pub(crate) fn set(atoms: &[u8]) -> AtomSet {
-    let mut s = AtomSet::empty();
-    for i in atoms {
-        s.insert(*i);
-    }
-    s
-}
 
 pub(crate) fn rule(heads: &[u8], needs: &[u8], bars: &[u8]) -> Rule {
     Rule {
-        heads: set(heads),
-        needs: set(needs),
-        bars: set(bars),
+        heads: AtomSet::from(heads),
+        needs: AtomSet::from(needs),
+        bars: AtomSet::from(bars),
     }
+}
+
+/// Rule k of the source, if it has one.
+pub(crate) fn rule_at<S: RuleSource>(source: &S, k: usize) -> Option<Rule> {
+    let mut place = Rule::empty();
+    source.rule(k, &mut place).then_some(place)
 }
 
 pub(crate) fn opened(heap: Global, words: &[u32]) -> Result<WordProgram, Refusal> {
@@ -35,12 +27,10 @@ pub(crate) fn opened(heap: Global, words: &[u32]) -> Result<WordProgram, Refusal
     Ok(program)
 }
 
-/// A program with no atoms and so many rules, none where that is too many.
+/// A program with no atoms and so many rules.
+// The tests of the word format make such words too: a crate for both would be a library, with a contract for each.
 pub(crate) fn empty_rules(heap: Global, rules: usize) -> Result<WordProgram, Refusal> {
-    let words = [END; 1_025];
-    let mut program = opened(heap, &[HEADER])?;
-    if rules <= 1_024 {
-        program.open(&words[0..rules + 1])?;
-    }
-    Ok(program)
+    let mut words = vec![in heap; HEADER]?;
+    words.extend(std::iter::repeat_n(END, rules))?;
+    opened(heap, &words)
 }

@@ -8,46 +8,31 @@ use program::source::RuleSource;
 use program::union::Union;
 use std::test::Fail;
 
-/// 0 for a selector, else the number of the refusal.
-fn code(made: Result<Selector, Refusal>) -> u32 {
-    match made {
-        Ok(_) => 0,
-        Err(refusal) => refusal.code(),
-    }
-}
-
-/// Rule k of the source, if it has one.
-fn rule_at<S: RuleSource>(source: &S, k: usize) -> Option<Rule> {
-    let mut place = Rule::empty();
-    if source.rule(k, &mut place) {
-        Some(place)
-    } else {
-        None
-    }
-}
-
 #[test]
 fn selector_refusals(rt: HostRuntime) {
     let table = [
-        (0, 1, 3, 0),
-        (0, 1, 1, 0),
-        (255, 0, 31, 0),
-        (0, 224, 255, 0),
-        (256, 0, 0, 41),
-        (0, 256, 256, 41),
-        (0, 1, 256, 41),
-        (0, 1, usize::MAX, 41),
-        (0, 3, 2, 42),
-        (40, 0, 32, 42),
-        (1, 1, 1, 43),
-        (3, 1, 3, 43),
+        (0, 1, 3, None),
+        (0, 1, 1, None),
+        (255, 0, 31, None),
+        (0, 224, 255, None),
+        (256, 0, 0, Some(41)),
+        (0, 256, 256, Some(41)),
+        (0, 1, 256, Some(41)),
+        (0, 1, usize::MAX, Some(41)),
+        (0, 3, 2, Some(42)),
+        (40, 0, 32, Some(42)),
+        (1, 1, 1, Some(43)),
+        (3, 1, 3, Some(43)),
         // an atom too high comes before the outlets, and these before the box
-        (256, 3, 2, 41),
-        (3, 3, 2, 42),
-        (5, 0, 32, 42),
+        (256, 3, 2, Some(41)),
+        (3, 3, 2, Some(42)),
+        (5, 0, 32, Some(42)),
     ];
     for (b, first, last, expected) in table {
-        assert_eq!(rt; code(Selector::new(b, first, last)), expected);
+        assert_eq!(rt;
+            Selector::new(b, first, last).err().map(Refusal::code),
+            expected
+        );
     }
 }
 

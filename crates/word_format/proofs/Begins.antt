@@ -1,7 +1,10 @@
 -- The index of rule starts.
-use Rattle.std.proofs.Common.{◌≡◌, ℕ, zero, suc, ◌+◌, ◌-◌, ◌<◌, ◌≤◌, Bool, true, false, cond, List, [], ◌∷◌, ◌++◌, length, get_or, take, drop, sym, refl, ap, ◌∙◌, subst, add-zero, add-one, arith}
-use Rattle.std.proofs.lemmas.List.{append-nil, take_more, length-take, length-map, get_or_read}
+use Rattle.std.proofs.Common.{◌≡◌, ℕ, zero, suc, ◌+◌, ◌-◌, ◌<◌, ◌≤◌, Bool, true, false, cond, List, [], ◌∷◌, length, get_or, map, take, drop, vec_items, sym, refl, ap, ◌∙◌, subst, add-one, arith}
+use Rattle.std.specs.List.{filter, enumerate_from}
+use Rattle.std.proofs.lemmas.List.{length-map, get_or_read}
 use Rattle.std.proofs.lemmas.Bool.{both_ways}
+use Rattle.word_format.specs.declared.words.WordProgram.{WordProgram}
+use Rattle.word_format.specs.Held.{contents, program_of}
 use Rattle.word_format.specs.Words.{is_end}
 use Rattle.word_format.specs.Checks.{ends, Lawful}
 use Rattle.word_format.specs.Reading.{onto, segments, rule_of, meaning}
@@ -9,36 +12,17 @@ use Rattle.word_format.specs.Index.{past_ends, starts, rule_words, Spans}
 use Rattle.word_format.proofs.Segments.{count_segments}
 use Rattle.word_format.proofs.Law.{body_closed, header_end}
 
-pub past_push : (k : ℕ) (xs : List ℕ) (w : ℕ) → past_ends k (xs ++ w ∷ []) ≡ past_ends k xs ++ cond (is_end w) ((k + length xs + 1) ∷ []) []
-past_push k [] w = ap (λ (x : ℕ). cond (is_end w) ((x + 1) ∷ []) []) (sym (add-zero k))
-past_push k (x ∷ xs) w = go (is_end x) refl (past_push (k + 1) xs w)
-  where
-    shift : k + 1 + length xs + 1 ≡ k + suc (length xs) + 1
-    shift = omega arith
+-- the index by the numbered words
+past_numbered : (i : ℕ) (ws : List ℕ) → past_ends i ws ≡ map (λ (p : ℕ × ℕ). p.0 + 1) (filter (λ (p : ℕ × ℕ). is_end p.1) (enumerate_from i ws))
+past_numbered i [] = refl
+past_numbered i (w ∷ ws) = let h = past_numbered (i + 1) ws in grind arith
 
-    go : (t : Bool) → is_end x ≡ t → past_ends (k + 1) (xs ++ w ∷ []) ≡ past_ends (k + 1) xs ++ cond (is_end w) ((k + 1 + length xs + 1) ∷ []) []
-        → cond (is_end x) ((k + 1) ∷ past_ends (k + 1) (xs ++ w ∷ [])) (past_ends (k + 1) (xs ++ w ∷ [])) ≡ cond (is_end x) ((k + 1) ∷ past_ends (k + 1) xs) (past_ends (k + 1) xs) ++ cond (is_end w) ((k + suc (length xs) + 1) ∷ []) []
-    go true t h = rw t (ap (λ (l : List ℕ). (k + 1) ∷ l) (h ∙ ap (λ (m : ℕ). past_ends (k + 1) xs ++ cond (is_end w) (m ∷ []) []) shift))
-    go false t h = rw t (h ∙ ap (λ (m : ℕ). past_ends (k + 1) xs ++ cond (is_end w) (m ∷ []) []) shift)
-
-pub starts_more : (ws : List ℕ) (i : ℕ) → i < length ws → starts (take (i + 1) ws) ≡ starts (take i ws) ++ cond (is_end (get_or ws i 0)) ((i + 1) ∷ []) []
-starts_more ws i l =
-    let e : 0 + length (take i ws) + 1 ≡ i + 1 = simp length-take (omega arith) in
-    ap starts (take_more ws i 0 l) ∙ past_push 0 (take i ws) (get_or ws i 0) ∙ ap (λ (m : ℕ). starts (take i ws) ++ cond (is_end (get_or ws i 0)) (m ∷ []) []) e
-
-pub starts_push : (ws : List ℕ) (i : ℕ) (bs cs : List ℕ) → i < length ws → bs ≡ starts (take i ws) → is_end (get_or ws i 0) ≡ true → cs ≡ bs ++ (i + 1) ∷ [] → cs ≡ starts (take (i + 1) ws)
-starts_push ws i bs cs l e t p = p ∙ ap (λ (x : List ℕ). x ++ (i + 1) ∷ []) e ∙ sym (rw t at (starts_more ws i l))
-
-pub starts_skip : (ws : List ℕ) (i : ℕ) (bs : List ℕ) → i < length ws → bs ≡ starts (take i ws) → is_end (get_or ws i 0) ≡ false → bs ≡ starts (take (i + 1) ws)
-starts_skip ws i bs l e t = e ∙ sym (append-nil (starts (take i ws))) ∙ sym (rw t at (starts_more ws i l))
+pub starts_lem : (ws : List ℕ) → starts ws ≡ map (λ (p : ℕ × ℕ). p.0 + 1) (filter (λ (p : ℕ × ℕ). is_end p.1) (enumerate_from 0 ws))
+starts_lem ws = past_numbered 0 ws
 
 pub past_count : (i : ℕ) (b : List ℕ) → length (past_ends i b) ≡ ends b
 past_count i [] = refl
-past_count i (w ∷ b) = go (is_end w) refl (past_count (i + 1) b)
-  where
-    go : (t : Bool) → is_end w ≡ t → length (past_ends (i + 1) b) ≡ ends b → length (cond (is_end w) ((i + 1) ∷ past_ends (i + 1) b) (past_ends (i + 1) b)) ≡ cond (is_end w) 1 0 + ends b
-    go true t h = rw t (omega arith)
-    go false t h = rw t (omega arith)
+past_count i (w ∷ b) = let h = past_count (i + 1) b in grind arith
 
 -- Part k of b, of the parts ss, lies between two positions, where b begins at position i.
 abbrev pub Span : ℕ → List ℕ → List (List ℕ) → ℕ → ℕ → ℕ → Type 0
@@ -71,10 +55,6 @@ span i (w ∷ b) k l = go (is_end w) (segments b) k l (λ j m. span (i + 1) b j 
     go false (s ∷ ss) (suc k) l h = span_later i w b (s ∷ ss) ((w ∷ s) ∷ ss) (suc k) (suc k) (get_or (past_ends (i + 1) b) k 0) (get_or (past_ends (i + 1) b) (suc k) 0) refl (h (suc k) (omega arith))
 
 -- What the index of lawful words tells.
-pub some_words : (ws : List ℕ) → Lawful ws → 0 < length ws
-some_words [] law = absurd (both_ways true law.0 refl)
-some_words (h ∷ b) law = omega arith
-
 pub count_starts : (ws : List ℕ) → Lawful ws → length (starts ws) ≡ length (meaning ws).rules + 1
 count_starts [] law = absurd (both_ways true law.0 refl)
 count_starts (h ∷ b) law =
@@ -99,11 +79,17 @@ rule_span (h ∷ b) law k l =
     subst (λ (x : ℕ). Spans (h ∷ b) k x (get_or (starts (h ∷ b)) (k + 1) 0)) (ap (λ (x : List ℕ). get_or x k 0) (sym st))
     (subst (Spans (h ∷ b) k from) (ap (λ (x : List ℕ). get_or x (suc k) 0) (sym st) ∙ ap (λ (x : ℕ). get_or (starts (h ∷ b)) x 0) (sym (add-one k))) at)
 
--- the index read at k and at k + 1
-pub spans : (ws bs : List ℕ) (k from to n : ℕ) → Lawful ws → bs ≡ starts ws → n ≡ length bs → k < length (meaning ws).rules → from ≡ get_or bs k from → to ≡ get_or bs (k + 1) to → Spans ws k from to
-spans ws bs k from to n law e long l f t =
-    let c = count_starts ws law in
-    let len = ap length e in
-    let f' : from ≡ get_or (starts ws) k 0 = get_or_read bs k from (omega arith) f 0 ∙ ap (λ (x : List ℕ). get_or x k 0) e in
-    let t' : to ≡ get_or (starts ws) (k + 1) 0 = get_or_read bs (k + 1) to (omega arith) t 0 ∙ ap (λ (x : List ℕ). get_or x (k + 1) 0) e in
-    subst (λ (x : ℕ). Spans ws k x to) (sym f') (subst (Spans ws k (get_or (starts ws) k 0)) (sym t') (rule_span ws law k l))
+-- the index that a word program holds
+pub begins_count : (p : WordProgram) → p.begins.len ≡ length (program_of p).rules + 1
+begins_count p = omega (arith, count_starts (contents p) p.lawful, ap length p.indexed, p.begins.ok.0)
+
+-- and what it tells at k and at k + 1
+pub spans : (p : WordProgram) (k from to : ℕ) → k < length (program_of p).rules → from ≡ get_or (vec_items p.begins) k from → to ≡ get_or (vec_items p.begins) (k + 1) to → Spans (contents p) k from to
+spans p k from to l f t =
+    let ws = contents p in
+    let bs = vec_items p.begins in
+    let c = begins_count p in
+    let n = p.begins.ok.0 in
+    let f' : from ≡ get_or (starts ws) k 0 = get_or_read bs k from (omega arith) f 0 ∙ ap (λ (x : List ℕ). get_or x k 0) p.indexed in
+    let t' : to ≡ get_or (starts ws) (k + 1) 0 = get_or_read bs (k + 1) to (omega arith) t 0 ∙ ap (λ (x : List ℕ). get_or x (k + 1) 0) p.indexed in
+    subst (λ (x : ℕ). Spans ws k x to) (sym f') (subst (Spans ws k (get_or (starts ws) k 0)) (sym t') (rule_span ws p.lawful k l))

@@ -1,20 +1,14 @@
 -- Four bytes to a word.
-use Rattle.std.proofs.Common.{◌≡◌, ℕ, zero, suc, ◌+◌, ◌*◌, ◌/◌, ◌%◌, ◌^◌, ◌<◌, ◌≤◌, List, [], ◌∷◌, ◌++◌, length, get_or, take, sym, refl, ap, ◌∙◌, ap₂, arith}
-use Rattle.std.proofs.lemmas.List.{take_more}
-use Rattle.std.proofs.lemmas.Bool.{le-ltb, eq-eqb}
+use Rattle.std.proofs.Common.{◌≡◌, ℕ, zero, suc, ◌+◌, ◌*◌, ◌/◌, ◌%◌, ◌^◌, ◌<◌, ◌≤◌, List, [], ◌∷◌, map, length, get_or, sym, refl, ap, ◌∙◌, ap₂, w32, arith}
+use Rattle.std.specs.Int.{from_be_bytes}
+use Rattle.std.specs.Simd.{first_chunks}
+use Rattle.std.proofs.lemmas.Bool.Decides.{nat_tests}
 use Rattle.word_format.specs.Checks.{Clear}
 use Rattle.word_format.specs.Bytes.{words_of_bytes, bytes_fault}
 
 -- the word of the bytes at i and after
 abbrev pub word_at : List ℕ → ℕ → ℕ
 word_at bs i = get_or bs i 0 * 2 ^ 24 + get_or bs (i + 1) 0 * 2 ^ 16 + get_or bs (i + 2) 0 * 2 ^ 8 + get_or bs (i + 3) 0
-
-pub length_words : (bs : List ℕ) → length (words_of_bytes bs) ≡ length bs / 4
-length_words [] = refl
-length_words (a ∷ []) = refl
-length_words (a ∷ b ∷ []) = refl
-length_words (a ∷ b ∷ c ∷ []) = refl
-length_words (a ∷ b ∷ c ∷ d ∷ bs) = let h = length_words bs in omega arith
 
 -- four places on
 word_four : (a b c d : ℕ) (bs : List ℕ) (i : ℕ) → word_at (a ∷ b ∷ c ∷ d ∷ bs) (4 + i) ≡ word_at bs i
@@ -35,10 +29,14 @@ word_at_lem (a ∷ b ∷ c ∷ d ∷ bs) (suc i) l =
     let e : 4 * suc i ≡ 4 + 4 * i = omega arith in
     word_at_lem bs i (omega arith) ∙ sym (word_four a b c d bs (4 * i)) ∙ ap (word_at (a ∷ b ∷ c ∷ d ∷ bs)) (sym e)
 
-pub words_more : (bs : List ℕ) (i : ℕ) (ws vs : List ℕ) (w : ℕ) → i < length bs / 4 → ws ≡ take i (words_of_bytes bs) → w ≡ word_at bs (4 * i) → vs ≡ ws ++ w ∷ [] → vs ≡ take (i + 1) (words_of_bytes bs)
-words_more bs i ws vs w l e f p =
-    let n = length_words bs in
-    p ∙ ap₂ (λ (x : List ℕ) (y : ℕ). x ++ y ∷ []) e (f ∙ sym (word_at_lem bs i l)) ∙ sym (take_more (words_of_bytes bs) i 0 (omega arith))
+pub words_of_fours : (bs : List ℕ) → map (from_be_bytes w32) (first_chunks 4 (length bs / 4) bs) ≡ words_of_bytes bs
+words_of_fours [] = refl
+words_of_fours (a ∷ []) = refl
+words_of_fours (a ∷ b ∷ []) = refl
+words_of_fours (a ∷ b ∷ c ∷ []) = refl
+words_of_fours (a ∷ b ∷ c ∷ d ∷ bs) =
+    let n : length (a ∷ b ∷ c ∷ d ∷ bs) / 4 ≡ suc (length bs / 4) = omega arith in
+    rw n (ap₂ (λ (w : ℕ) (ws : List ℕ). w ∷ ws) (omega arith) (words_of_fours bs))
 
 pub whole_words : (bs : List ℕ) → length bs ≤ 65536 → length bs % 4 ≡ 0 → Clear (bytes_fault bs)
-whole_words bs l m = rw (le-ltb 65536 (length bs) l, eq-eqb (length bs % 4) 0 m)
+whole_words bs l m = grind (arith, nat_tests)

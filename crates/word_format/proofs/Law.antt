@@ -1,16 +1,16 @@
 -- Words are lawful exactly when they are the writing of a program within the bounds, and that program is what they mean.
-use Rattle.std.proofs.Common.{◌≡◌, ℕ, suc, ◌+◌, ◌-◌, ◌^◌, ◌<◌, ◌≤◌, Bool, true, false, cond, ltb, ◌⊎◌, List, [], ◌∷◌, ◌++◌, map, length, get_or, take, Some, None, sym, refl, ap, ◌∙◌, subst, ap₂, inl, inr, ⊎_elim, append_assoc, zero-add, add-one, arith}
+use Rattle.std.proofs.Common.{◌≡◌, ℕ, suc, ◌+◌, ◌-◌, ◌^◌, ◌<◌, ◌≤◌, true, false, cond, ltb, ◌⊎◌, List, [], ◌∷◌, ◌++◌, map, length, get_or, take, None, sym, refl, ap, ◌∙◌, subst, ap₂, inl, inr, ⊎_elim, append_assoc, zero-add, add-one, arith}
 use Rattle.std.specs.List.{flat_map, AllByRecursion}
 use Rattle.std.proofs.ByRecursion.{All-append, All-get_or, All-from_get_or, All-weaker}
 use Rattle.std.proofs.lemmas.List.{length-map, get_or_past}
 use Rattle.std.proofs.lemmas.Bool.Decides.{nat_tests}
-use Rattle.std.proofs.lemmas.Bool.{both_ways, cases_lt, le-ltb, ltb-false}
+use Rattle.std.proofs.lemmas.Bool.{both_ways, le-ltb}
 use Rattle.word_format.specs.declared.word.Kind.{Kind}
 use Rattle.word_format.specs.declared.word.Kind.TheVariants.{End}
-use Rattle.program.specs.declared.refusal.Refusal.{Refusal}
 use Rattle.word_format.specs.Words.{kind_of, number_of, rank, is_end}
 use Rattle.word_format.specs.Checks.{ends, fault, fault_after, front_fault, Lawful}
-use Rattle.program.specs.Programs.{Rule, Over, Program}
+use Rattle.program.specs.Limits.{over_each}
+use Rattle.program.specs.Programs.{Rule, Over, Program, Limited}
 use Rattle.word_format.specs.Reading.{rule_of, segments, meaning}
 use Rattle.word_format.specs.Writing.{word_of, write_rule, written, InBounds}
 use Rattle.word_format.proofs.ProgramWritten.{segments_written}
@@ -70,23 +70,17 @@ module _ (n : ℕ) (small : n ≤ 256) where
 
 -- a list whose every word is small
 small_at : (ws : List ℕ) → AllByRecursion (λ w. w < 2 ^ 32) ws → (i : ℕ) → get_or ws i 0 < 2 ^ 32
-small_at ws a i = ⊎_elim (λ (l : i < length ws). All-get_or (λ w. w < 2 ^ 32) ws i 0 l a) (λ (l : length ws ≤ i). let e = get_or_past ws i 0 l in omega arith) (cases_lt i (length ws))
+small_at ws a i = grind (arith, All-get_or, get_or_past)
 
 -- what the front of lawful words tells
 front_tells : (h : ℕ) (b : List ℕ) → front_fault (h ∷ b) ≡ None → (length (h ∷ b) ≤ 16384) × (is_end h ≡ true) × (number_of h ≤ 256)
-front_tells h b f = go (ltb 16384 (length (h ∷ b))) (is_end h) (ltb 256 (number_of h)) refl refl refl f
-  where
-    go : (x y z : Bool) → ltb 16384 (length (h ∷ b)) ≡ x → is_end h ≡ y → ltb 256 (number_of h) ≡ z → cond x (Some Refusal.TooLong) (cond y (cond z (Some Refusal.TooManyAtoms) None) (Some Refusal.BadHeader)) ≡ None → (length (h ∷ b) ≤ 16384) × (is_end h ≡ true) × (number_of h ≤ 256)
-    go true y z ex ey ez h = absurd (grind arith)
-    go false true true ex ey ez h = absurd (grind arith)
-    go false true false ex ey ez e = (ltb-false 16384 (length (h ∷ b)) ex, ey, ltb-false 256 (number_of h) ez)
-    go false false z ex ey ez h = absurd (grind arith)
+front_tells h b f = grind (arith, nat_tests)
 
 body_clean : (h : ℕ) (b : List ℕ) → Lawful (h ∷ b) → Clean (number_of h) h 0 b
 body_clean h b law = clean_from (number_of h) h 0 b (λ i l. ap₂ (λ (e w : ℕ). fault (number_of h) (get_or (h ∷ b) i 0) e w) (zero-add (ends (take i b))) (ap (λ (k : ℕ). get_or (h ∷ b) k 0) (sym (add-one i))) ∙ clear_none (fault_after (h ∷ b) i) (law.1 i (omega arith)))
 
 pub header_end : (h : ℕ) (b : List ℕ) → Lawful (h ∷ b) → is_end h ≡ true
-header_end h b law = (front_tells h b (clear_none (front_fault (h ∷ b)) law.0)).1
+header_end h b law = grind (arith, front_tells, clear_none)
 
 pub body_closed : (h : ℕ) (b : List ℕ) → Lawful (h ∷ b) → closed h b ≡ true
 body_closed h b law = let e : length b ≡ length (h ∷ b) - 1 = omega arith in closed_last h b ∙ ap (λ (k : ℕ). is_end (get_or (h ∷ b) k 0)) e ∙ law.2
@@ -137,6 +131,10 @@ write_meaning (h ∷ b) law = (
 
     same : written (meaning (h ∷ b)) ≡ h ∷ b
     same = ap₂ (λ (x : ℕ) (y : List ℕ). x ∷ y) header (write_all (number_of h) front.2 (segments b) rests ∙ join_segments h b cl)
+
+-- and what they mean keeps the limits
+pub limited_meaning : (ws : List ℕ) → Lawful ws → Limited (meaning ws)
+limited_meaning ws law = let b = (write_meaning ws law).0 in (b.few_atoms, b.few_rules, over_each (meaning ws).atoms (meaning ws).rules b.over)
 
 -- A program within the bounds is what its writing means.
 pub meaning_written : (P : Program) → InBounds P → meaning (written P) ≡ P

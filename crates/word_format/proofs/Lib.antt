@@ -7,9 +7,8 @@ pub mod Law
 pub mod Verdicts
 pub mod Begins
 pub mod Fours
-pub mod SomeKind
 pub mod RuleSpelled
 pub mod RuleFetched
 pub mod PartsWritten
-pub mod Pushes
 pub mod ProgramWritten
+pub mod Pushes

@@ -1,55 +1,40 @@
 -- The kind and the number of a word.
-use Rattle.std.proofs.Common.{◌≡◌, ℕ, zero, suc, ◌/◌, ◌^◌, ◌<◌, ◌≤◌, Bool, true, false, cond, ◌||◌, eqb, ltb, leb, is_some, Some, None, Option, sym, refl, ap, ◌∙◌, ⊎_elim, arith}
+use Rattle.std.proofs.Common.{◌≡◌, ℕ, ◌/◌, ◌^◌, ◌<◌, ◌≤◌, true, false, eqb, is_some, None, Option, sym, ap, ◌∙◌, arith}
 use Rattle.std.proofs.lemmas.Bool.Decides.{nat_tests}
-use Rattle.std.proofs.lemmas.Bool.{eqb-true, eqb-false, cases_lt, both_ways}
 use Rattle.word_format.specs.declared.word.Kind.{Kind}
-use Rattle.word_format.specs.declared.word.Kind.TheVariants.{Head, Need, Bar, End}
+use Rattle.word_format.specs.declared.word.Kind.TheVariants.{End}
 use Rattle.program.specs.declared.refusal.Refusal.{Refusal}
 use Rattle.word_format.specs.Words.{kind_numbered, kind_of, number_of, rank, is_kind, is_end}
 use Rattle.word_format.specs.Checks.{Clear, follows, fault}
 use Rattle.word_format.specs.Writing.{word_of}
 
 pub clear_none : (o : Option Refusal) → Clear o → o ≡ None
-clear_none None c = refl
-clear_none (Some r) c = absurd (both_ways true c refl)
+clear_none o c = grind arith
 
 pub none_clear : (o : Option Refusal) → o ≡ None → Clear o
 none_clear o e = ap is_some e
 
 rank_below : (q : ℕ) → q < 4 → rank (kind_numbered q) ≡ q
-rank_below zero l = refl
-rank_below (suc zero) l = refl
-rank_below (suc (suc zero)) l = refl
-rank_below (suc (suc (suc zero))) l = refl
-rank_below (suc (suc (suc (suc q)))) l = absurd (omega arith)
+rank_below q l = grind arith
 
 -- the kind's rank is the top two bits
 pub rank_of : (w : ℕ) → w < 2 ^ 32 → rank (kind_of w) ≡ w / 2 ^ 30
 rank_of w l = rank_below (w / 2 ^ 30) (omega arith)
 
 rank_above : (q : ℕ) → 3 ≤ q → rank (kind_numbered q) ≡ 3
-rank_above zero l = absurd (omega arith)
-rank_above (suc zero) l = absurd (omega arith)
-rank_above (suc (suc zero)) l = absurd (omega arith)
-rank_above (suc (suc (suc q))) l = refl
+rank_above q l = grind arith
 
 pub atom_below : (w : ℕ) → is_end w ≡ false → w < 3221225472
-atom_below w e = ⊎_elim (λ (l : w < 3221225472). l) (λ (l : 3221225472 ≤ w). absurd (eqb-false (rank (kind_of w)) 3 e (rank_above (w / 2 ^ 30) (omega arith)))) (cases_lt w 3221225472)
+atom_below w e = grind (arith, nat_tests, rank_above)
 
 pub end_above : (w : ℕ) → w < 2 ^ 32 → is_end w ≡ true → 3221225472 ≤ w
-end_above w l e = let r = eqb-true (rank (kind_of w)) 3 e in let q = rank_of w l in omega arith
+end_above w l e = grind (arith, nat_tests, rank_of)
 
 kind_rank : (k : Kind) → kind_numbered (rank k) ≡ k
-kind_rank Head = refl
-kind_rank Need = refl
-kind_rank Bar = refl
-kind_rank End = refl
+kind_rank k = grind arith
 
 pub rank_lt : (k : Kind) → rank k < 4
-rank_lt Head = omega arith
-rank_lt Need = omega arith
-rank_lt Bar = omega arith
-rank_lt End = omega arith
+rank_lt k = grind arith
 
 pub same_rank : (j k : Kind) → rank j ≡ rank k → j ≡ k
 same_rank j k e = sym (kind_rank j) ∙ ap kind_numbered e ∙ kind_rank k
@@ -71,45 +56,26 @@ is_kind_word j k i l = ap (λ (x : Kind). eqb (rank x) (rank j)) (kind_of_word k
 
 -- where both words are of a rule's parts, the later one is the larger number
 pub follows_lt : (p w : ℕ) → is_end p ≡ false → is_end w ≡ false → follows p w ≡ true → p < w
-follows_lt p w ep ew f =
-    let lp = atom_below p ep in
-    let lw = atom_below w ew in
-    let rp = rank_of p (omega arith) in
-    let rw' = rank_of w (omega arith) in
-    grind (arith, nat_tests)
+follows_lt p w ep ew f = grind (arith, nat_tests, atom_below, rank_of)
 
 pub lt_follows : (p w : ℕ) → p < w → is_end w ≡ false → follows p w ≡ true
-lt_follows p w l ew =
-    let lw = atom_below w ew in
-    let rp = rank_of p (omega arith) in
-    let rw' = rank_of w (omega arith) in
-    grind (arith, nat_tests)
+lt_follows p w l ew = grind (arith, nat_tests, atom_below, rank_of)
 
 pub end_follows : (p w : ℕ) → is_end p ≡ true → follows p w ≡ true
 end_follows p w e = rw e
 
 -- a word with no fault
 pub fault_atom : (n p e w : ℕ) → is_end w ≡ false → fault n p e w ≡ None → (number_of w < n) × (follows p w ≡ true)
-fault_atom n p e w ew f = go (leb 256 (number_of w) || leb n (number_of w)) (follows p w) refl refl (rw ew at f)
-  where
-    go : (a b : Bool) → (leb 256 (number_of w) || leb n (number_of w)) ≡ a → follows p w ≡ b → cond a (Some Refusal.NoSuchAtom) (cond b None (Some Refusal.OutOfOrder)) ≡ None → (number_of w < n) × (follows p w ≡ true)
-    go true b ea eb h = absurd (grind arith)
-    go false true ea eb h = (grind (arith, nat_tests), eb)
-    go false false ea eb h = absurd (grind arith)
+fault_atom n p e w ew f = grind (arith, nat_tests)
 
 pub fault_end : (n p e w : ℕ) → is_end w ≡ true → fault n p e w ≡ None → (number_of w ≡ 0) × (e < 1024)
-fault_end n p e w ew f = go (eqb (number_of w) 0) (ltb e 1024) refl refl (rw ew at f)
-  where
-    go : (a b : Bool) → eqb (number_of w) 0 ≡ a → ltb e 1024 ≡ b → cond a (cond b None (Some Refusal.TooManyRules)) (Some Refusal.BadEnd) ≡ None → (number_of w ≡ 0) × (e < 1024)
-    go true true ea eb h = (grind (arith, nat_tests), grind (arith, nat_tests))
-    go true false ea eb h = absurd (grind arith)
-    go false b ea eb h = absurd (grind arith)
+fault_end n p e w ew f = grind (arith, nat_tests)
 
 pub atom_faultless : (n p e w : ℕ) → is_end w ≡ false → number_of w < n → n ≤ 256 → follows p w ≡ true → fault n p e w ≡ None
-atom_faultless n p e w ew l m f = let past : (leb 256 (number_of w) || leb n (number_of w)) ≡ false = grind (arith, nat_tests) in rw (ew, past, f)
+atom_faultless n p e w ew l m f = grind (arith, nat_tests)
 
 pub end_faultless : (n p e w : ℕ) → is_end w ≡ true → number_of w ≡ 0 → e < 1024 → fault n p e w ≡ None
-end_faultless n p e w ew z l = let a : eqb (number_of w) 0 ≡ true = grind (arith, nat_tests) in let b : ltb e 1024 ≡ true = grind (arith, nat_tests) in rw (ew, a, b)
+end_faultless n p e w ew z l = grind (arith, nat_tests)
 
 -- the end word
 abbrev pub end_word : ℕ
@@ -117,4 +83,4 @@ end_word = word_of End 0
 
 -- an end word with no fault is the end word
 pub end_is : (w : ℕ) → w < 2 ^ 32 → is_end w ≡ true → number_of w ≡ 0 → w ≡ end_word
-end_is w l e z = let a = end_above w l e in omega arith
+end_is w l e z = grind (arith, end_above)

@@ -1,5 +1,5 @@
 -- The parts of a written program: one for each rule, each with its start.
-use Rattle.std.proofs.Common.{◌≡◌, ℕ, zero, suc, ◌+◌, ◌*◌, ◌<◌, ◌≤◌, Bool, true, false, cond, List, [], ◌∷◌, ◌++◌, map, length, get_or, sym, refl, ap, ◌∙◌, ap₂, append_assoc, add-one, arith}
+use Rattle.std.proofs.Common.{◌≡◌, ℕ, zero, suc, ◌+◌, ◌*◌, ◌<◌, ◌≤◌, true, List, [], ◌∷◌, ◌++◌, map, length, get_or, sym, refl, ap, ◌∙◌, ap₂, append_assoc, add-one, arith}
 use Rattle.std.specs.List.{flat_map, AllByRecursion}
 use Rattle.std.proofs.lemmas.List.{length-append, length-map, get_or-map}
 use Rattle.atoms.specs.Sets.{Atoms}
@@ -16,11 +16,7 @@ use Rattle.word_format.proofs.Segments.{AtomWord, segments_cons}
 
 words_few : (k : Kind) (X : Atoms) (n : ℕ) → length (words_of k X n) ≤ n
 words_few k X zero = omega arith
-words_few k X (suc n) = go (X n) (words_few k X n)
-  where
-    go : (b : Bool) → length (words_of k X n) ≤ n → length (words_of k X n ++ cond b (word_of k n ∷ []) []) ≤ suc n
-    go true h = omega (arith, length-append (words_of k X n) (word_of k n ∷ []))
-    go false h = omega (arith, length-append (words_of k X n) [])
+words_few k X (suc n) = let h = words_few k X n in grind (arith, length-append)
 
 pub rule_few : (n : ℕ) (r : Rule) → length (write_rule n r) ≤ 3 * n + 1
 rule_few n r =
@@ -39,7 +35,7 @@ module _ (n : ℕ) (small : n ≤ 256) where
 
   past_parts : (t rest : List ℕ) (i : ℕ) → AllByRecursion (AtomWord n) t → past_ends i (t ++ end_word ∷ rest) ≡ (i + (length t + 1)) ∷ past_ends (i + (length t + 1)) rest
   past_parts [] rest i a = refl
-  past_parts (w ∷ t) rest i ((ew, lw), a) = let e : i + 1 + (length t + 1) ≡ i + (suc (length t) + 1) = omega arith in rw ew (past_parts t rest (i + 1) a ∙ ap (λ (x : ℕ). x ∷ past_ends x rest) e)
+  past_parts (w ∷ t) rest i ((ew, lw), a) = let h = past_parts t rest (i + 1) a in grind arith
 
   past_rule : (r : Rule) (rs : List Rule) (i : ℕ) → past_ends i (flat_map (write_rule n) (r ∷ rs)) ≡ (i + length (write_rule n r)) ∷ past_ends (i + length (write_rule n r)) (flat_map (write_rule n) rs)
   past_rule r rs i =
@@ -63,7 +59,7 @@ module _ (P : Program) (limits : Limited P) where
   written_count = length-map (segments (flat_map (write_rule P.atoms) P.rules)) rule_of ∙ ap length (segments_written P.atoms limits.0 P.rules) ∙ length-map P.rules (write_rule P.atoms)
 
   pub written_first : 1 ≡ get_or (starts (written P)) 0 0
-  written_first = sym (ap (λ (x : List ℕ). get_or x 0 0) starts_written)
+  written_first = grind (arith, starts_written)
 
   pub written_next : (k : ℕ) → k < length P.rules → get_or (starts (written P)) k 0 + length (write_rule P.atoms (rule_at P.rules k)) ≡ get_or (starts (written P)) (k + 1) 0
   written_next k l =

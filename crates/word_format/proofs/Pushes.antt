@@ -1,5 +1,5 @@
 -- Lists that grow at the end.
-use Rattle.std.proofs.Common.{◌≡◌, ℕ, List, [], ◌∷◌, ◌++◌, ap, ◌∙◌, append_assoc}
+use Rattle.std.proofs.Common.{◌≡◌, ℕ, List, ◌++◌, ap, ◌∙◌, append_assoc}
 
 -- pushes, one after the other
 pub pushed_three : (t u v w a b c : List ℕ) → u ≡ t ++ a → v ≡ u ++ b → w ≡ v ++ c → w ≡ t ++ (a ++ (b ++ c))
@@ -7,7 +7,3 @@ pushed_three t u v w a b c p q r = r ∙ ap (λ (x : List ℕ). x ++ c) (q ∙ a
 
 pub pushed_four : (t u v w x a b c d : List ℕ) → u ≡ t ++ a → v ≡ u ++ b → w ≡ v ++ c → x ≡ w ++ d → x ≡ t ++ (a ++ (b ++ (c ++ d)))
 pushed_four t u v w x a b c d p q r s = s ∙ ap (λ (y : List ℕ). y ++ d) (pushed_three t u v w a b c p q r) ∙ simp append_assoc
-
--- three parts and an end, from nothing
-pub pushed_rule : (t u v w x a b c : List ℕ) (d end : ℕ) → t ≡ [] → u ≡ t ++ a → v ≡ u ++ b → w ≡ v ++ c → x ≡ w ++ d ∷ [] → d ≡ end → x ≡ a ++ (b ++ (c ++ end ∷ []))
-pushed_rule t u v w x a b c d end n p q r s e = pushed_four t u v w x a b c (d ∷ []) p q r s ∙ ap (λ (y : List ℕ). y ++ (a ++ (b ++ (c ++ d ∷ [])))) n ∙ ap (λ (y : ℕ). a ++ (b ++ (c ++ y ∷ []))) e

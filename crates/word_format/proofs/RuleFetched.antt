@@ -1,17 +1,13 @@
--- The words of rule k, and the rule that they spell.
-use Rattle.std.proofs.Common.{◌≡◌, ℕ, ◌+◌, ◌-◌, ◌<◌, ◌≤◌, Bool, true, false, cond, ltb, List, [], ◌∷◌, length, get_or, take, drop, sym, refl, ap, ◌∙◌, subst, ⊎_elim, add-one, arith}
+-- The words of rule k spell a rule.
+use Rattle.std.proofs.Common.{◌≡◌, ℕ, ◌+◌, ◌-◌, ◌<◌, ◌≤◌, true, false, List, [], ◌∷◌, get_or, take, drop, sym, refl, ap, ◌∙◌, subst, add-one, arith}
 use Rattle.std.specs.List.{AllByRecursion}
 use Rattle.std.proofs.ByRecursion.{All-get_or, All-from_get_or}
-use Rattle.std.proofs.lemmas.List.{get_or-map, get_or_past, length-map}
-use Rattle.std.proofs.lemmas.Bool.{both_ways, cases_lt, lt-ltb}
-use Rattle.program.specs.Programs.{Rule}
-use Rattle.word_format.specs.declared.shown.Shown.{Shown}
-use Rattle.word_format.specs.declared.shown.Shown.TheVariants as shown
+use Rattle.std.proofs.lemmas.List.{get_or_past, length-map}
+use Rattle.std.proofs.lemmas.Bool.{both_ways}
 use Rattle.word_format.specs.Words.{number_of, is_end}
 use Rattle.word_format.specs.Checks.{Lawful, fault_after, ends}
-use Rattle.word_format.specs.Reading.{onto, segments, rule_of, meaning}
+use Rattle.word_format.specs.Reading.{segments, rule_of, meaning}
 use Rattle.word_format.specs.Index.{rule_words, Spans}
-use Rattle.word_format.specs.Showing.{Shows, AsShown}
 use Rattle.word_format.proofs.Numbers.{clear_none, fault_atom}
 
 -- a head, need or bar is an atom of some set
@@ -30,15 +26,10 @@ spells_body h b law small =
 -- what holds of every word holds of the words of every part
 segments_all : (P : ℕ → Type 0) (b : List ℕ) → AllByRecursion P b → AllByRecursion (AllByRecursion P) (segments b)
 segments_all P [] a = tt
-segments_all P (w ∷ b) (p, a) = go (is_end w) (segments b) (segments_all P b a)
-  where
-    go : (t : Bool) (ss : List (List ℕ)) → AllByRecursion (AllByRecursion P) ss → AllByRecursion (AllByRecursion P) (cond t ((w ∷ []) ∷ ss) (onto w ss))
-    go true ss h = ((p, tt), h)
-    go false [] h = tt
-    go false (s ∷ ss) (q, h) = ((p, q), h)
+segments_all P (w ∷ b) (p, a) = let h = segments_all P b a in grind arith
 
 spells_at : (xs : List ℕ) → AllByRecursion Spells xs → (i : ℕ) → Spells (get_or xs i 0)
-spells_at xs a i = ⊎_elim (λ (l : i < length xs). All-get_or Spells xs i 0 l a) (λ (l : length xs ≤ i). subst Spells (sym (get_or_past xs i 0 l)) (λ e. omega arith)) (cases_lt i (length xs))
+spells_at xs a i = grind (arith, All-get_or, get_or_past)
 
 pub spells : (ws vs : List ℕ) → Lawful ws → (meaning ws).atoms ≤ 256 → (k from to : ℕ) → Spans ws k from to → vs ≡ ws → (i : ℕ) → Spells (get_or (take (to - from) (drop from vs)) i 0)
 spells [] vs law small k from to span e i = absurd (both_ways true law.0 refl)
@@ -47,27 +38,3 @@ spells (h ∷ b) vs law small k from to span e i =
     let m = length-map (segments b) rule_of in
     let part : AllByRecursion Spells (rule_words (h ∷ b) k) = All-get_or (AllByRecursion Spells) (segments b) k [] (let l = span.some in omega arith) all in
     subst (λ (xs : List ℕ). Spells (get_or xs i 0)) (span.words ∙ ap (λ (xs : List ℕ). take (to - from) (drop from xs)) (sym e)) (spells_at (rule_words (h ∷ b) k) part i)
-
--- what the source answers of a rule that is there
-module _ (ws vs : List ℕ) (k from to : ℕ) (span : Spans ws k from to) (same : vs ≡ ws) (r : Rule) (is : r ≡ rule_of (take (to - from) (drop from vs))) where
-  spelled : r ≡ rule_of (rule_words ws k)
-  spelled = is ∙ ap rule_of (ap (λ (xs : List ℕ). take (to - from) (drop from xs)) same ∙ sym span.words)
-
-  pub there : true ≡ ltb k (length (meaning ws).rules)
-  there = sym (lt-ltb k (length (meaning ws).rules) span.some)
-
-  pub fetched : (p : Rule) → r ≡ get_or (meaning ws).rules k p
-  fetched p = let m = length-map (segments (drop 1 ws)) rule_of in spelled ∙ sym (get_or-map rule_of (segments (drop 1 ws)) k [] p (let l = span.some in omega arith))
-
-  pub as_shown : (p : Rule) (s : Shown) → Shows ws k s → AsShown s true p r
-  as_shown p (shown.Fact part position) h = (refl, spelled ∙ ap rule_of (sym h.1))
-  as_shown p (shown.Rule part position) h = (refl, spelled ∙ ap rule_of (sym h.1))
-  as_shown p (shown.Constraint part position) h = (refl, spelled ∙ ap rule_of (sym h.1))
-  as_shown p shown.PastEnd h = let l = span.some in absurd (omega arith)
-
--- and where there is none
-pub as_shown_none : (ws : List ℕ) (k : ℕ) → length (meaning ws).rules ≤ k → (p : Rule) (s : Shown) → Shows ws k s → AsShown s false p p
-as_shown_none ws k l p (shown.Fact part position) h = absurd (omega (arith, h.0))
-as_shown_none ws k l p (shown.Rule part position) h = absurd (omega (arith, h.0))
-as_shown_none ws k l p (shown.Constraint part position) h = absurd (omega (arith, h.0))
-as_shown_none ws k l p shown.PastEnd h = (refl, refl)

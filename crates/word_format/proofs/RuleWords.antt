@@ -89,10 +89,7 @@ module _ (n : ℕ) (r : Rule) where
           subst (λ (j : ℕ). holds k (write_rule n r) j ≡ true) (number_of_word k i (omega arith)) h)
 
 part_holds : (k : Kind) (s : List ℕ) → rank k < 3 → part k (rule_of s) ≡ holds k s
-part_holds Head s l = refl
-part_holds Need s l = refl
-part_holds Bar s l = refl
-part_holds End s l = absurd (omega arith)
+part_holds k s l = grind arith
 
 -- Writing what was read.
 pub write_back : (n : ℕ) → n ≤ 256 → (s : List ℕ) → Rest n end_word s → (write_rule n (rule_of s) ≡ s) × Over n (rule_of s)

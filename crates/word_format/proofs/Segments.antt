@@ -38,20 +38,11 @@ closed_last p (w ∷ b) = closed_last w b
 -- the number of rules
 pub clean_ends : (n p e : ℕ) (b : List ℕ) → Clean n p e b → e ≤ 1024 → e + ends b ≤ 1024
 clean_ends n p e [] c l = omega arith
-clean_ends n p e (w ∷ b) (f, c) l = go (is_end w) refl (clean_ends n w (e + cond (is_end w) 1 0) b c)
-  where
-    go : (t : Bool) → is_end w ≡ t → (e + cond (is_end w) 1 0 ≤ 1024 → e + cond (is_end w) 1 0 + ends b ≤ 1024) → e + (cond (is_end w) 1 0 + ends b) ≤ 1024
-    go true t h = let few = (fault_end n p e w t f).1 in let k = h (rw t (omega arith)) in omega arith
-    go false t h = let k = h (rw t (omega arith)) in omega arith
+clean_ends n p e (w ∷ b) (f, c) l = let h = clean_ends n w (e + cond (is_end w) 1 0) b c in let k = fault_end n p e w in grind arith
 
 pub count_segments : (b : List ℕ) (p : ℕ) → closed p b ≡ true → length (segments b) ≡ ends b
 count_segments [] p c = refl
-count_segments (w ∷ b) p c = go (is_end w) refl (segments b) (count_segments b w c) refl
-  where
-    go : (t : Bool) → is_end w ≡ t → (ss : List (List ℕ)) → length ss ≡ ends b → segments b ≡ ss → length (cond (is_end w) ((w ∷ []) ∷ segments b) (onto w (segments b))) ≡ cond (is_end w) 1 0 + ends b
-    go true t ss l e = rw (t, e) (omega arith)
-    go false t [] l e = rw (t, e) (omega arith)
-    go false t (s ∷ ss) l e = rw (t, e) (omega arith)
+count_segments (w ∷ b) p c = let h = count_segments b w c in grind arith
 
 -- a head, need or bar with an atom below n
 abbrev pub AtomWord : ℕ → ℕ → Type 0
@@ -86,21 +77,11 @@ shapes n p e (w ∷ b) (f, c) cl (lw, small) = go (is_end w) refl (segments b) (
 -- an unfinished part has an end after it
 some_segment : (b : List ℕ) (p : ℕ) → is_end p ≡ false → closed p b ≡ true → segments b ≡ [] → ⊥
 some_segment [] p t c e = both_ways (is_end p) t c
-some_segment (w ∷ b) p t c e = pick (is_end w) refl (segments b) refl e (λ u. some_segment b w u c)
-  where
-    pick : (u : Bool) → is_end w ≡ u → (ss : List (List ℕ)) → segments b ≡ ss → cond (is_end w) ((w ∷ []) ∷ segments b) (onto w (segments b)) ≡ [] → (is_end w ≡ false → segments b ≡ [] → ⊥) → ⊥
-    pick true u ss q h rest = let z = rw u at h in grind arith
-    pick false u [] q h rest = rest u q
-    pick false u (s ∷ ss) q h rest = let z = rw (u, q) at h in grind arith
+some_segment (w ∷ b) p t c e = let h = some_segment b w in grind arith
 
 pub join_segments : (p : ℕ) (b : List ℕ) → closed p b ≡ true → flat_map (λ (s : List ℕ). s) (segments b) ≡ b
 join_segments p [] c = refl
-join_segments p (w ∷ b) c = go (is_end w) refl (segments b) refl (join_segments w b c)
-  where
-    go : (t : Bool) → is_end w ≡ t → (ss : List (List ℕ)) → segments b ≡ ss → flat_map (λ (s : List ℕ). s) (segments b) ≡ b → flat_map (λ (s : List ℕ). s) (cond (is_end w) ((w ∷ []) ∷ segments b) (onto w (segments b))) ≡ w ∷ b
-    go true t ss q ih = rw t (ap (λ (x : List ℕ). w ∷ x) ih)
-    go false t [] q ih = absurd (some_segment b w t c q)
-    go false t (s ∷ ss) q ih = rw (t, q) (ap (λ (x : List ℕ). w ∷ x) (rw q at ih))
+join_segments p (w ∷ b) c = let h = join_segments w b c in let k = some_segment b w in grind arith
 
 -- the words before the end word: they rise, and are all of a rule's parts
 pub fronts : (n p : ℕ) (s : List ℕ) → Rest n p s → (t : List ℕ) × (s ≡ t ++ end_word ∷ []) × AllByRecursion (AtomWord n) t × Ascending ◌<◌ t × ((is_end p ≡ true) ⊎ AllByRecursion (λ x. p < x) t)
@@ -122,4 +103,4 @@ fronts n p (w ∷ s) (inr (a, after, r)) = go (fronts n w s r)
 -- the parts of written rules
 pub segments_cons : (n : ℕ) (t rest : List ℕ) → AllByRecursion (AtomWord n) t → is_end end_word ≡ true → segments (t ++ end_word ∷ rest) ≡ (t ++ end_word ∷ []) ∷ segments rest
 segments_cons n [] rest a e = refl
-segments_cons n (w ∷ t) rest ((ew, lw), a) e = rw (ew, segments_cons n t rest a e)
+segments_cons n (w ∷ t) rest ((ew, lw), a) e = let h = segments_cons n t rest a e in grind arith

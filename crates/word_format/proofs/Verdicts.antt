@@ -1,22 +1,20 @@
 -- One verdict for each list of words.
-use Rattle.std.proofs.Common.{◌≡◌, ℕ, ◌<◌, ◌⊎◌, List, is_some, Some, Ok, Err, Option, Result, sym, ap, ◌∙◌, subst, inl, inr, arith, MatchResult}
-use Rattle.std.proofs.lemmas.Bool.{cases_order, both_ways}
+use Rattle.std.proofs.Common.{◌≡◌, ℕ, ◌<◌, ◌⊎◌, List, Some, Ok, Err, Option, Result, sym, ◌∙◌, subst, inl, inr, arith, MatchResult}
+use Rattle.std.proofs.lemmas.Bool.{cases_order}
 use Rattle.program.specs.declared.refusal.Refusal.{Refusal}
-use Rattle.word_format.specs.Checks.{Clear, fault_after, front_fault, finished, Lawful, Refused}
+use Rattle.word_format.specs.Checks.{Clear, fault_after, front_fault, Lawful, Refused}
 use Rattle.word_format.specs.Reading.{meaning}
 use Rattle.word_format.specs.Writing.{Reads}
 use Rattle.word_format.proofs.Law.{write_meaning, meaning_written, lawful_written}
 
 not_clear : (o : Option Refusal) (r : Refusal) → o ≡ Some r → Clear o → ⊥
-not_clear o r e f = both_ways (is_some o) f (ap is_some e)
+not_clear o r e f = grind arith
 
 same_some : (o : Option Refusal) (r s : Refusal) → o ≡ Some r → o ≡ Some s → r ≡ s
 same_some o r s e f = cc
 
 pub lawful_not_refused : (ws : List ℕ) (r : Refusal) → Lawful ws → Refused ws r → ⊥
-lawful_not_refused ws r law (inl f) = not_clear (front_fault ws) r f law.0
-lawful_not_refused ws r law (inr (inl (i, l, clean, f))) = not_clear (fault_after ws i) r f (law.1 i l)
-lawful_not_refused ws r law (inr (inr (clean, f, e))) = both_ways (finished ws) f law.2
+lawful_not_refused ws r a b = grind (arith, not_clear)
 
 pub one_refusal : (ws : List ℕ) (r s : Refusal) → Refused ws r → Refused ws s → r ≡ s
 one_refusal ws r s (inl f) (inl g) = same_some (front_fault ws) r s f g

@@ -60,6 +60,4 @@ to_holds k (x ∷ ws) w h e = ⊎_elim
     (has_cons_cases x ws w h)
 
 pub same_bool : (a b : Bool) → (a ≡ true → b ≡ true) → (b ≡ true → a ≡ true) → a ≡ b
-same_bool true b to from = sym (to refl)
-same_bool false true to from = from refl
-same_bool false false to from = refl
+same_bool a b to from = grind arith

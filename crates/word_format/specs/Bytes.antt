@@ -1,5 +1,5 @@
 -- A file's bytes: four make a word, the most significant first.
-use Rattle.std.specs.Prelude.{◌≡◌, ℕ, ◌+◌, ◌*◌, ◌%◌, ◌^◌, cond, ◌⊎◌, List, [], ◌∷◌, length, Some, None, Ok, Err, Option, Result, ◌==◌, nat_lt}
+use Rattle.std.specs.Prelude.{◌≡◌, ℕ, ◌+◌, ◌*◌, ◌%◌, ◌^◌, if◌then◌else◌, ◌⊎◌, List, [], ◌∷◌, length, Some, None, Ok, Err, Option, Result, ◌==◌, nat_lt}
 use Rattle.program.specs.declared.refusal.Refusal.{Refusal}
 use Rattle.program.specs.declared.refusal.Refusal.TheVariants.{TooLong, PartialWord, OutOfMemory}
 use Rattle.word_format.specs.declared.words.WordProgram.{WordProgram}
@@ -15,7 +15,7 @@ words_of_bytes (a ∷ b ∷ c ∷ d ∷ bs) = (a * 2 ^ 24 + b * 2 ^ 16 + c * 2 ^
 
 -- the fault of the bytes as such, tested before the words
 abbrev pub bytes_fault : List ℕ → Option Refusal
-bytes_fault bs = cond (nat_lt 65536 (length bs)) (Some TooLong) (cond (length bs % 4 == 0) None (Some PartialWord))
+bytes_fault bs = if nat_lt 65536 (length bs) then Some TooLong else (if length bs % 4 == 0 then None else Some PartialWord)
 
 -- the refusal of a file: of its bytes, or else of its words
 abbrev pub RefusedBytes : List ℕ → Refusal → Type 0

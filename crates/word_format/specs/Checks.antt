@@ -1,5 +1,5 @@
 -- When a list of words is lawful, and else the refusal that it gets: the first test that fails.
-use Rattle.std.specs.Prelude.{◌≡◌, ℕ, ◌+◌, ◌-◌, ◌^◌, ◌<◌, Bool, true, false, cond, ◌&&◌, ◌||◌, ◌⊎◌, List, [], ◌∷◌, length, take, drop, is_some, Some, None, Option, ◌==◌, nat_le, nat_lt, slice_index}
+use Rattle.std.specs.Prelude.{◌≡◌, ℕ, ◌+◌, ◌-◌, ◌^◌, ◌<◌, Bool, true, false, if◌then◌else◌, ◌&&◌, ◌||◌, ◌⊎◌, List, [], ◌∷◌, length, take, drop, is_some, Some, None, Option, ◌==◌, nat_le, nat_lt, slice_index}
 use Rattle.program.specs.declared.refusal.Refusal.{Refusal}
 use Rattle.program.specs.declared.refusal.Refusal.TheVariants.{BadHeader, TooManyAtoms, NoSuchAtom, OutOfOrder, BadEnd, Unfinished, TooManyRules, TooLong}
 use Rattle.word_format.specs.Words.{kind_of, number_of, rank, is_end}
@@ -7,7 +7,7 @@ use Rattle.word_format.specs.Words.{kind_of, number_of, rank, is_end}
 -- how many end words there are
 abbrev pub ends : List ℕ → ℕ
 ends [] = 0
-ends (w ∷ ws) = cond (is_end w) 1 0 + ends ws
+ends (w ∷ ws) = (if is_end w then 1 else 0) + ends ws
 
 -- w may stand after p: p ends a rule or is the header, or w is of a later kind, or of the same kind with a higher number
 abbrev pub follows : ℕ → ℕ → Bool
@@ -15,15 +15,15 @@ follows p w = is_end p || (nat_lt (rank (kind_of p)) (rank (kind_of w)) || (rank
 
 -- the fault of a head, need or bar w after the word p, where there are n atoms
 abbrev pub atom_fault : ℕ → ℕ → ℕ → Option Refusal
-atom_fault n p w = cond (nat_le 256 (number_of w) || nat_le n (number_of w)) (Some NoSuchAtom) (cond (follows p w) None (Some OutOfOrder))
+atom_fault n p w = if nat_le 256 (number_of w) || nat_le n (number_of w) then Some NoSuchAtom else (if follows p w then None else Some OutOfOrder)
 
 -- the fault of an end word w after e others, the header aside
 abbrev pub end_fault : ℕ → ℕ → Option Refusal
-end_fault e w = cond (number_of w == 0) (cond (nat_lt e 1024) None (Some TooManyRules)) (Some BadEnd)
+end_fault e w = if number_of w == 0 then (if nat_lt e 1024 then None else Some TooManyRules) else Some BadEnd
 
 -- the fault of a word w after the header: n atoms, p the word before it, e end words before it
 abbrev pub fault : ℕ → ℕ → ℕ → ℕ → Option Refusal
-fault n p e w = cond (is_end w) (end_fault e w) (atom_fault n p w)
+fault n p e w = if is_end w then end_fault e w else atom_fault n p w
 
 -- the fault of the word after the one at position i
 abbrev pub fault_after : List ℕ → ℕ → Option Refusal
@@ -31,12 +31,12 @@ fault_after ws i = fault (number_of (slice_index ws 0)) (slice_index ws i) (ends
 
 -- the fault of the first word
 abbrev pub header_fault : ℕ → Option Refusal
-header_fault w = cond (is_end w) (cond (nat_lt 256 (number_of w)) (Some TooManyAtoms) None) (Some BadHeader)
+header_fault w = if is_end w then (if nat_lt 256 (number_of w) then Some TooManyAtoms else None) else Some BadHeader
 
 -- the fault of the whole: its length, that there is a first word, and the first word
 abbrev pub front_fault : List ℕ → Option Refusal
 front_fault [] = Some BadHeader
-front_fault (w ∷ ws) = cond (nat_lt 16384 (length (w ∷ ws))) (Some TooLong) (header_fault w)
+front_fault (w ∷ ws) = if nat_lt 16384 (length (w ∷ ws)) then Some TooLong else header_fault w
 
 -- the last word ends a rule or is the header
 abbrev pub finished : List ℕ → Bool

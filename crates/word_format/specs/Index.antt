@@ -1,12 +1,12 @@
 -- Where the rules begin.
-use Rattle.std.specs.Prelude.{◌≡◌, ℕ, ◌+◌, ◌<◌, ◌≤◌, cond, List, [], ◌∷◌, length, drop, slice_index, slice_index_or, slice_range}
+use Rattle.std.specs.Prelude.{◌≡◌, ℕ, ◌+◌, ◌<◌, ◌≤◌, if◌then◌else◌, List, [], ◌∷◌, length, drop, slice_index, slice_index_or, slice_range}
 use Rattle.word_format.specs.Words.{is_end}
 use Rattle.word_format.specs.Reading.{segments, meaning}
 
 -- the positions just after the end words, where the first word stands at position i
 abbrev pub past_ends : ℕ → List ℕ → List ℕ
 past_ends i [] = []
-past_ends i (w ∷ ws) = cond (is_end w) ((i + 1) ∷ past_ends (i + 1) ws) (past_ends (i + 1) ws)
+past_ends i (w ∷ ws) = if is_end w then (i + 1) ∷ past_ends (i + 1) ws else past_ends (i + 1) ws
 
 -- rule k begins just after end word k, the header being end word 0; the last entry is the length
 abbrev pub starts : List ℕ → List ℕ

@@ -1,5 +1,5 @@
 -- What a list of words means.
-use Rattle.std.specs.Prelude.{ℕ, false, cond, ◌&&◌, ◌||◌, List, [], ◌∷◌, map, drop, ◌==◌, slice_index}
+use Rattle.std.specs.Prelude.{ℕ, false, if◌then◌else◌, ◌&&◌, ◌||◌, List, [], ◌∷◌, map, drop, ◌==◌, slice_index}
 use Rattle.atoms.specs.Sets.{Atoms}
 use Rattle.word_format.specs.declared.word.Kind.{Kind}
 use Rattle.word_format.specs.declared.word.Kind.TheVariants.{Head, Need, Bar}
@@ -22,7 +22,7 @@ onto w (s ∷ ss) = (w ∷ s) ∷ ss
 -- the words cut after each end word: one part for each rule, its end word last
 abbrev pub segments : List ℕ → List (List ℕ)
 segments [] = []
-segments (w ∷ ws) = cond (is_end w) ((w ∷ []) ∷ segments ws) (onto w (segments ws))
+segments (w ∷ ws) = if is_end w then (w ∷ []) ∷ segments ws else onto w (segments ws)
 
 -- the header's number, and the rules after the header
 abbrev pub meaning : List ℕ → Program

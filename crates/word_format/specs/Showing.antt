@@ -1,5 +1,6 @@
 -- What is shown of a rule.
-use Rattle.std.specs.Prelude.{◌≡◌, ℕ, ◌<◌, ◌≤◌, Bool, true, false, cond, ◌||◌, List, [], ◌∷◌, length, slice_index}
+use Rattle.std.specs.Prelude.{◌≡◌, ℕ, ◌<◌, ◌≤◌, Bool, true, false, if◌then◌else◌, ◌||◌, List, length, slice_index, Some, None, Option}
+use Rattle.std.specs.List.{list_any}
 use Rattle.word_format.specs.declared.word.Kind.{Kind}
 use Rattle.word_format.specs.declared.word.Kind.TheVariants.{Head, Need, Bar}
 use Rattle.word_format.specs.declared.shown.Form.{Form}
@@ -13,12 +14,11 @@ use Rattle.word_format.specs.Index.{starts, rule_words}
 
 -- some word is of this kind
 abbrev pub has_kind : Kind → List ℕ → Bool
-has_kind k [] = false
-has_kind k (w ∷ ws) = is_kind k w || has_kind k ws
+has_kind k ws = list_any (is_kind k) ws
 
 -- a fact has heads only, a rule has heads and a body, a constraint has no heads
 abbrev pub form_of : List ℕ → Form
-form_of ws = cond (has_kind Head ws) (cond (has_kind Need ws || has_kind Bar ws) form.Rule form.Fact) form.Constraint
+form_of ws = if has_kind Head ws then (if has_kind Need ws || has_kind Bar ws then form.Rule else form.Fact) else form.Constraint
 
 abbrev pub same_form : Form → Form → Bool
 same_form form.Fact form.Fact = true
@@ -40,6 +40,13 @@ Shows ws k (Fact part position) = Part ws k form.Fact part.now position
 Shows ws k (Rule part position) = Part ws k form.Rule part.now position
 Shows ws k (Constraint part position) = Part ws k form.Constraint part.now position
 Shows ws k PastEnd = length (meaning ws).rules ≤ k
+
+-- the form of what is shown, and none past the end
+abbrev pub shown_form : Shown → Option Form
+shown_form (Fact part position) = Some form.Fact
+shown_form (Rule part position) = Some form.Rule
+shown_form (Constraint part position) = Some form.Constraint
+shown_form PastEnd = None
 
 -- What a source answers of rule k, and leaves in the place, is the rule that is shown.
 abbrev pub AsShown : Shown → Bool → RuleOf → RuleOf → Type 0

@@ -1,5 +1,5 @@
 -- How a program is written in words, and which programs can be.
-use Rattle.std.specs.Prelude.{◌≡◌, ℕ, zero, suc, ◌+◌, ◌*◌, ◌^◌, ◌≤◌, cond, List, [], ◌∷◌, ◌++◌, length, Ok, Err, Result, ◌≢◌}
+use Rattle.std.specs.Prelude.{◌≡◌, ℕ, zero, suc, ◌+◌, ◌*◌, ◌^◌, ◌≤◌, if◌then◌else◌, List, [], ◌∷◌, ◌++◌, length, Ok, Err, Result, ◌≢◌}
 use Rattle.std.specs.List.{flat_map, AllByRecursion}
 use Rattle.atoms.specs.Sets.{Atoms}
 use Rattle.program.specs.declared.refusal.Refusal.{Refusal}
@@ -16,7 +16,7 @@ word_of k i = rank k * 2 ^ 30 + i
 -- a word of this kind for each atom of X below n, rising
 abbrev pub words_of : Kind → Atoms → ℕ → List ℕ
 words_of k X zero = []
-words_of k X (suc n) = words_of k X n ++ cond (X n) (word_of k n ∷ []) []
+words_of k X (suc n) = words_of k X n ++ (if X n then word_of k n ∷ [] else [])
 
 -- heads, needs, bars, end
 abbrev pub write_rule : ℕ → Rule → List ℕ

@@ -11,24 +11,20 @@ use std::alloc::Global;
 pub const MAX_BYTES: usize = 4 * MAX_WORDS;
 
 /// The words of these bytes, four to a word, the most significant first.
+// A function, since a `TryFrom` is given no allocator.
 pub fn words_from_bytes(heap: Global, bytes: &[u8]) -> Result<Vec<u32>, Refusal>
     ensures { MatchResult result (λ v. Clear (bytes_fault bytes.now) × (v.items ≡ words_of_bytes bytes.now)) (λ e. (bytes_fault bytes.now ≡ Some e) ⊎ (Clear (bytes_fault bytes.now) × (e ≡ Refusal.OutOfMemory))) }
 {
     if bytes.len() > MAX_BYTES {
         return Err(Refusal::TooLong);
     }
-    if bytes.len() % 4 != 0 {
+    let (fours, rest) = bytes.as_chunks::<4>();
+    if !rest.is_empty() {
         return Err(Refusal::PartialWord);
     }
-    let mut words = Vec::new(heap);
-    for i in 0..bytes.len() / 4 {
-        let word = [
-            bytes[4 * i],
-            bytes[4 * i + 1],
-            bytes[4 * i + 2],
-            bytes[4 * i + 3],
-        ];
-        words.push(u32::from_be_bytes(word))?;
-    }
+    let words = fours
+        .iter()
+        .map(|four| u32::from_be_bytes(*four))
+        .collect(heap)?;
     Ok(words)
 }

@@ -1,23 +1,20 @@
 // The check of a list of words, in one walk.
 ghost use Rattle.std.specs.Prelude.{◌≡◌, ℕ, true, false, if◌then◌else◌, Ok, Err, MatchResult};
 ghost use Rattle.word_format.specs.Checks.{Lawful, Refused};
-ghost use Rattle.word_format.specs.Walk.{Begins, Stands, Takes, fresh};
+ghost use Rattle.word_format.specs.Walk.{Begins, Stands, TakesFrom};
 ghost use Rattle.word_format.specs.Words.{is_end};
 ghost use Rattle.word_format.specs.Writing.{Reads};
 
-use crate::word::{Kind, MAX_ATOMS, kind_of, number_of, split};
-use program::limits;
+use crate::word::{Kind, Token, is_kind, number_of};
+use program::limits::{MAX_ATOMS, MAX_RULES};
 use program::refusal::Refusal;
 
 /// The most words that a program may have.
 pub const MAX_WORDS: usize = 16_384;
-/// The most rules that a program may have, as the check counts them.
-pub const MAX_RULES: u32 = limits::MAX_RULES as u32;
 
-/// Where in a program the next word stands: before the header, or after parts of a rule of these kinds.
+/// After parts of a rule of which kinds the next word stands.
 #[derive(Clone, Copy)]
 enum Phase {
-    Header,
     Heads,
     Needs,
     Bars,
@@ -28,52 +25,45 @@ enum Phase {
 struct Checker {
     phase: Phase,
     /// the count of atoms
-    atoms: u32,
+    atoms: usize,
     /// the least number that the next word of the same kind may have
-    floor: u32,
+    floor: usize,
     /// how many rules have ended
-    rules: u32,
+    rules: usize,
 }
 
 impl Checker {
-    fn start() -> Checker
-        ensures { result ≡ fresh }
+    /// After the header.
+    fn start(header: u32) -> Result<Checker, Refusal>
+        ensures { Begins header result }
     {
-        Checker {
-            phase: Phase::Header,
-            atoms: 0,
+        if !is_kind(header, Kind::End) {
+            return Err(Refusal::BadHeader);
+        }
+        let atoms = number_of(header).0 as usize;
+        if atoms > MAX_ATOMS {
+            return Err(Refusal::TooManyAtoms);
+        }
+        Ok(Checker {
+            phase: Phase::Heads,
+            atoms,
             floor: 0,
             rules: 0,
-        }
+        })
     }
 
     /// One word more.
     fn take(&mut self, word: u32) -> Result<(), Refusal>
-        ensures first { self.old ≡ fresh → Begins word result self.new }
-        ensures later { (n p e : ℕ) → Stands n p e self.old → Takes n p e word result self.new }
+        ensures { TakesFrom self.old word result self.new }
     {
-        match (self.phase, kind_of(word)) {
-            (Phase::Header, Kind::End) => self.take_header(word),
-            (Phase::Header, _) => Err(Refusal::BadHeader),
-            (_, Kind::End) => self.take_end(word),
-            _ => self.take_atom(word),
+        if is_kind(word, Kind::End) {
+            return self.take_end(word);
         }
-    }
-
-    fn take_header(&mut self, word: u32) -> Result<(), Refusal>
-        ensures { is_end word ≡ true → self.old ≡ fresh → Begins word result self.new }
-    {
-        let atoms = number_of(word).0;
-        if atoms > MAX_ATOMS {
-            return Err(Refusal::TooManyAtoms);
-        }
-        self.phase = Phase::Heads;
-        self.atoms = atoms;
-        Ok(())
+        self.take_atom(word)
     }
 
     fn take_end(&mut self, word: u32) -> Result<(), Refusal>
-        ensures { (n p e : ℕ) → is_end word ≡ true → Stands n p e self.old → Takes n p e word result self.new }
+        ensures { is_end word ≡ true → TakesFrom self.old word result self.new }
     {
         if number_of(word).0 != 0 {
             return Err(Refusal::BadEnd);
@@ -88,13 +78,14 @@ impl Checker {
     }
 
     fn take_atom(&mut self, word: u32) -> Result<(), Refusal>
-        ensures { (n p e : ℕ) → is_end word ≡ false → Stands n p e self.old → Takes n p e word result self.new }
+        ensures { is_end word ≡ false → TakesFrom self.old word result self.new }
     {
-        let token = split(word)?;
-        let atom = token.number.0;
+        let token = Token::try_from(word)?;
+        let atom = token.number.0 as usize;
         if atom >= self.atoms {
             return Err(Refusal::NoSuchAtom);
         }
+        // on the phase and the kind together, as the project asks of this step
         match (self.phase, token.kind) {
             (Phase::Heads, Kind::Head) | (Phase::Needs, Kind::Need) | (Phase::Bars, Kind::Bar) => {
                 if atom < self.floor {
@@ -111,19 +102,12 @@ impl Checker {
 
     /// Whether the words may end here.
     fn finish(&self) -> Result<(), Refusal>
-        ensures none { self.now ≡ fresh → result ≡ Err Refusal.BadHeader }
-        ensures some { (n p e : ℕ) → Stands n p e self.now → result ≡ (if is_end p then Ok tt else Err Refusal.Unfinished) }
+        ensures { (n p e : ℕ) → Stands n p e self.now → result ≡ (if is_end p then Ok tt else Err Refusal.Unfinished) }
     {
-        match self.phase {
-            Phase::Header => Err(Refusal::BadHeader),
-            Phase::Heads => {
-                if self.floor > 0 {
-                    return Err(Refusal::Unfinished);
-                }
-                Ok(())
-            }
-            Phase::Needs | Phase::Bars => Err(Refusal::Unfinished),
+        if self.floor > 0 {
+            return Err(Refusal::Unfinished);
         }
+        Ok(())
     }
 }
 
@@ -136,8 +120,10 @@ pub fn check(words: &[u32]) -> Result<(), Refusal>
     if words.len() > MAX_WORDS {
         return Err(Refusal::TooLong);
     }
-    let mut check = Checker::start();
-    for i in 0..words.len() {
+    let header = words.first().ok_or(Refusal::BadHeader)?;
+    let mut check = Checker::start(*header)?;
+    // By index, as the project asks of this walk: its invariant is of the words before i.
+    for i in 1..words.len() {
         check.take(words[i])?;
     }
     check.finish()

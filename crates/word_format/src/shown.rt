@@ -1,5 +1,5 @@
 // A rule as it is shown.
-ghost use Rattle.word_format.specs.Showing.{form_of, has_kind};
+ghost use Rattle.word_format.specs.Showing.{form_of, has_kind, shown_form};
 ghost use Rattle.std.specs.Prelude.{◌≡◌};
 
 use crate::word::{Kind, is_kind};
@@ -15,6 +15,7 @@ pub enum Form {
 }
 
 /// The words of a rule, its end word included, and the position of the first.
+// An enum of the forms and no `Option`: the project asks that its cases lend the words, with one for past the end.
 #[derive(Clone, Copy)]
 pub enum Shown<'a> {
     Fact(&'a [u32], usize),
@@ -23,15 +24,25 @@ pub enum Shown<'a> {
     PastEnd,
 }
 
+impl Shown<'_> {
+    /// The form of the rule, if there is one.
+    pub fn form(&self) -> Option<Form>
+        ensures { result ≡ shown_form self.now }
+    {
+        match self {
+            Shown::Fact(..) => Some(Form::Fact),
+            Shown::Rule(..) => Some(Form::Rule),
+            Shown::Constraint(..) => Some(Form::Constraint),
+            Shown::PastEnd => None,
+        }
+    }
+}
+
 /// Whether some word is of this kind.
 pub fn has_kind(words: &[u32], kind: Kind) -> bool
     ensures { result ≡ has_kind kind words.now }
 {
-    let mut found = false;
-    for word in words {
-        found |= is_kind(*word, kind);
-    }
-    found
+    words.iter().any(|word| is_kind(*word, kind))
 }
 
 /// The form of a rule by its words.

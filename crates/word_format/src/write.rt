@@ -1,17 +1,17 @@
 // A rule written as words.
 ghost use Rattle.atoms.specs.Member.{has};
 ghost use Rattle.program.specs.Rules.{as_rule};
-ghost use Rattle.std.specs.Prelude.{◌≡◌, ◌++◌, MatchResult};
-ghost use Rattle.word_format.specs.Writing.{word_of, words_of, write_rule};
+ghost use Rattle.std.specs.Prelude.{◌≡◌, ◌++◌, MatchResult, OnOk};
+ghost use Rattle.word_format.specs.Writing.{words_of, write_rule};
 
-use crate::word::Kind;
+use crate::word::{Kind, word_of};
 use atoms::AtomSet;
-use program::limits::MAX_ATOMS;
 use program::refusal::Refusal;
 use program::rule::Rule;
-use std::alloc::Global;
+use std::alloc::{AllocError, Global};
 
 /// The words of a rule of a program with so many atoms, the end word last.
+// A `Refusal`, though only memory can be wanting: the project asks for one enum in all public calls.
 pub fn written_rule(heap: Global, atoms: usize, rule: &Rule) -> Result<Vec<u32>, Refusal>
     ensures { MatchResult result (λ v. v.items ≡ write_rule atoms (as_rule rule.now)) (λ e. e ≡ Refusal.OutOfMemory) }
 {
@@ -24,26 +24,12 @@ pub fn written_rule(heap: Global, atoms: usize, rule: &Rule) -> Result<Vec<u32>,
 }
 
 /// A word of this kind for each atom of the set below n, rising.
-fn push_part(words: &mut Vec<u32>, kind: Kind, n: usize, part: &AtomSet) -> Result<(), Refusal>
-    ensures { MatchResult result (λ _. words.new.items ≡ words.old.items ++ words_of kind (has part.now) n) (λ e. e ≡ Refusal.OutOfMemory) }
+#[tactic(auto, using(crate::proofs::PartsWritten::part_words))]
+fn push_part(words: &mut Vec<u32>, kind: Kind, n: usize, part: &AtomSet) -> Result<(), AllocError>
+    ensures { OnOk result (words.new.items ≡ words.old.items ++ words_of kind (has part.now) n) }
 {
-    let end = n.min(MAX_ATOMS);
-    for atom in 0..end {
-        if part.contains(atom as u8) {
-            words.push(word_of(kind, atom as u8))?;
-        }
+    for atom in &part.intersection(&AtomSet::below(n)) {
+        words.push(word_of(kind, atom))?;
     }
     Ok(())
-}
-
-fn word_of(kind: Kind, number: u8) -> u32
-    ensures { result ≡ word_of kind number }
-{
-    let first = match kind {
-        Kind::Head => 0,
-        Kind::Need => 0x4000_0000,
-        Kind::Bar => 0x8000_0000,
-        Kind::End => 0xC000_0000,
-    };
-    first + u32::from(number)
 }

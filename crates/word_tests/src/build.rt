@@ -2,25 +2,15 @@
 use program::refusal::Refusal;
 use std::alloc::{AllocError, Global};
 use word_format::check::check;
+pub(crate) use word_format::word::{BAR, END, END as HEADER, NEED};
 
-pub(crate) const HEADER: u32 = 0xC000_0000;
-
-pub(crate) const END: u32 = 0xC000_0000;
-
-pub(crate) const NEED: u32 = 0x4000_0000;
-
-pub(crate) const BAR: u32 = 0x8000_0000;
-
-/// 0 for lawful words, else the number of the refusal.
-pub(crate) fn verdict(words: &[u32]) -> u32 {
+/// The number of the refusal, if the words are not lawful.
+pub(crate) fn verdict(words: &[u32]) -> Option<u32> {
     code(check(words))
 }
 
-pub(crate) fn code(r: Result<(), Refusal>) -> u32 {
-    match r {
-        Ok(()) => 0,
-        Err(refusal) => refusal.code(),
-    }
+pub(crate) fn code(answer: Result<(), Refusal>) -> Option<u32> {
+    answer.err().map(Refusal::code)
 }
 
 /// A header, so many empty rules, and these words.
@@ -29,34 +19,28 @@ pub(crate) fn empty_rules(
     rules: usize,
     rest: &[u32],
 ) -> Result<Vec<u32>, AllocError> {
-    let mut words = Vec::new(heap);
-    words.push(HEADER + 1)?;
-    for _ in 0..rules {
-        words.push(END)?;
-    }
+    let mut words = vec![in heap; HEADER + 1]?;
+    words.extend(std::iter::repeat_n(END, rules))?;
     words.extend_from_slice(rest)?;
     Ok(words)
 }
 
 /// So many words of a program with 256 atoms: fifteen heads to a rule.
 pub(crate) fn long(heap: Global, len: usize) -> Result<Vec<u32>, AllocError> {
-    let mut words = Vec::new(heap);
-    words.push(HEADER + 256)?;
-    for i in 1..len.saturating_sub(1) {
-        words.push(if i % 16 == 0 { END } else { (i % 16) as u32 })?;
-    }
+    let mut words = vec![in heap; HEADER + 256]?;
+    words.extend((1..len.saturating_sub(1)).map(|i| if i % 16 == 0 {
+        END
+    } else {
+        (i % 16) as u32
+    }))?;
     words.push(END)?;
     Ok(words)
 }
 
-/// The bytes of the words, and so many more.
-pub(crate) fn bytes(heap: Global, words: &[u32], more: usize) -> Result<Vec<u8>, AllocError> {
-    let mut bytes = Vec::new(heap);
-    for word in words {
-        bytes.extend_from_slice(&word.to_be_bytes())?;
-    }
-    for _ in 0..more {
-        bytes.push(0)?;
-    }
-    Ok(bytes)
+/// The bytes of the words.
+pub(crate) fn bytes(heap: Global, words: &[u32]) -> Result<Vec<u8>, AllocError> {
+    words
+        .iter()
+        .flat_map(|word| word.to_be_bytes())
+        .collect(heap)
 }

@@ -1,9 +1,9 @@
 // What is shown of each rule, and its line.
 use crate::build::*;
-use account::report::inspect;
+use account::inspect::inspect;
 use account::text::rule_line;
 use std::test::Fail;
-use word_format::shown::Shown;
+use word_format::shown::{Form, Shown};
 use word_format::words::WordProgram;
 
 // a fact, two rules, a constraint, and a rule with no parts
@@ -30,45 +30,33 @@ const WORDS: [u32; 20] = [
     END,
 ];
 
-/// The form, the position, the first word and the number of words.
-fn parts(shown: Shown<'_>) -> (u8, usize, u32, usize) {
+/// The form, the position, the first word and the number of words, if a rule is shown.
+fn parts(shown: Shown<'_>) -> Option<(Form, usize, u32, usize)> {
+    let form = shown.form()?;
     match shown {
-        Shown::Fact(part, position) => (
-            1,
-            position,
-            part.first().copied().unwrap_or(0),
-            part.len(),
-        ),
-        Shown::Rule(part, position) => (
-            2,
-            position,
-            part.first().copied().unwrap_or(0),
-            part.len(),
-        ),
-        Shown::Constraint(part, position) => (
-            3,
-            position,
-            part.first().copied().unwrap_or(0),
-            part.len(),
-        ),
-        Shown::PastEnd => (0, 0, 0, 0),
+        Shown::Fact(part, position)
+        | Shown::Rule(part, position)
+        | Shown::Constraint(part, position) => {
+            Some((form, position, *part.first()?, part.len()))
+        }
+        Shown::PastEnd => None,
     }
 }
 
 #[test]
 fn forms(rt: HostRuntime) -> Result<(), Fail> {
     let mut program = WordProgram::new(rt.alloc())?;
-    assert_eq!(rt; parts(program.show(0)), (0, 0, 0, 0));
-    assert_eq!(rt; code(program.open(&WORDS)), 0);
+    assert_eq!(rt; parts(program.show(0)), None);
+    assert_eq!(rt; code(program.open(&WORDS)), None);
     let table = [
-        (0, (1, 1, 0, 3)),
-        (1, (2, 4, 0, 5)),
-        (2, (2, 9, 7, 4)),
-        (3, (3, 13, NEED + 2, 4)),
-        (4, (3, 17, END, 1)),
-        (5, (3, 18, BAR + 1, 2)),
-        (6, (0, 0, 0, 0)),
-        (usize::MAX, (0, 0, 0, 0)),
+        (0, Some((Form::Fact, 1, 0, 3))),
+        (1, Some((Form::Rule, 4, 0, 5))),
+        (2, Some((Form::Rule, 9, 7, 4))),
+        (3, Some((Form::Constraint, 13, NEED + 2, 4))),
+        (4, Some((Form::Constraint, 17, END, 1))),
+        (5, Some((Form::Constraint, 18, BAR + 1, 2))),
+        (6, None),
+        (usize::MAX, None),
     ];
     for (k, expected) in table {
         assert_eq!(rt; parts(program.show(k)), expected);
@@ -80,7 +68,7 @@ fn forms(rt: HostRuntime) -> Result<(), Fail> {
 fn lines(rt: HostRuntime) -> Result<(), Fail> {
     let heap = rt.alloc();
     let mut program = WordProgram::new(heap)?;
-    assert_eq!(rt; code(program.open(&WORDS)), 0);
+    assert_eq!(rt; code(program.open(&WORDS)), None);
     let table = [
         "rule 0 at 1: 0 | 11 <-\n",
         "rule 1 at 4: 0 | 1 <- 2, not 3\n",

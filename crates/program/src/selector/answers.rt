@@ -1,8 +1,7 @@
 // A selector as a source of rules.
-ghost use Rattle.std.specs.Prelude.{◌≡◌, ℕ, ◌-◌, ◌*◌, ◌/◌, ◌<◌, ◌≤◌, length, MatchOption, slice_index_or};
+ghost use Rattle.std.specs.Prelude.{◌≡◌, ℕ, ◌-◌, ◌*◌, ◌/◌, ◌≤◌, Some, None, IfSome, IfNone, slice_get};
 ghost use Rattle.atoms.specs.Member.{has};
 ghost use Rattle.program.specs.SelectorLimits.{selector_small};
-ghost use Rattle.program.specs.Programs.{Rule as RuleOf};
 ghost use Rattle.program.specs.Rules.{Holds};
 ghost use Rattle.program.specs.Selectors.{exclusion, exclusions_in, selector_meaning, some_outlet, span};
 
@@ -18,6 +17,18 @@ struct Pair {
     high: u8,
 }
 
+impl Pair {
+    /// The two are not both on.
+    fn exclusion(self) -> Rule
+        ensures { Holds result (exclusion self.low self.high) }
+    {
+        Rule {
+            needs: AtomSet::from(&[self.low, self.high][..]),
+            ..Rule::empty()
+        }
+    }
+}
+
 impl RuleSource for Selector {
     ghost meaning = { selector_meaning };
 
@@ -27,11 +38,13 @@ impl RuleSource for Selector {
         self.box_atom.max(self.last) as usize + 1
     }
 
+    #[tactic(auto, using(crate::proofs::Outlets::pair_count))]
     fn rule_count(&self) -> usize {
         let outlets = (self.last - self.first) as usize + 1;
         1 + pairs(outlets)
     }
 
+    #[tactic(auto, using(crate::proofs::Outlets::later_test, crate::proofs::Outlets::past_test, crate::proofs::Outlets::past_rule))]
     fn rule(&self, k: usize, place: &mut Rule) -> bool {
         if k == 0 {
             *place = self.some_outlet();
@@ -39,7 +52,7 @@ impl RuleSource for Selector {
         }
         match self.pair(k - 1) {
             Some(pair) => {
-                *place = exclusion_of(pair);
+                *place = pair.exclusion();
                 true
             }
             None => false,
@@ -52,16 +65,15 @@ impl Selector {
     fn some_outlet(&self) -> Rule
         ensures { Holds result (some_outlet self.now.box_atom self.now.first self.now.last) }
     {
-        let mut needs = AtomSet::empty();
-        needs.insert(self.box_atom);
         Rule {
             heads: self.outlets(),
-            needs,
-            bars: AtomSet::empty(),
+            needs: AtomSet::from(&[self.box_atom][..]),
+            ..Rule::empty()
         }
     }
 
     /// The set of the outlets.
+    #[tactic(auto, using(crate::proofs::Outlets::span_has))]
     fn outlets(&self) -> AtomSet
         ensures { (i : ℕ) → has result i ≡ span self.now.first self.now.last i }
     {
@@ -70,10 +82,13 @@ impl Selector {
     }
 
     /// The two outlets at place k of all pairs, ordered by the lower and then by the higher.
+    #[tactic(auto, using(crate::proofs::Outlets::pair_here, crate::proofs::Outlets::pair_later, crate::proofs::Outlets::pair_past))]
     fn pair(&self, k: usize) -> Option<Pair>
-        ensures { MatchOption result (length (exclusions_in self.now) ≤ k) (λ p. (k < length (exclusions_in self.now)) × ((d : RuleOf) → slice_index_or (exclusions_in self.now) k d ≡ exclusion p.low p.high)) }
+        ensures some { IfSome result (λ p. slice_get (exclusions_in self.now) k ≡ Some (exclusion p.low p.high)) }
+        ensures none { IfNone result (slice_get (exclusions_in self.now) k ≡ None) }
     {
         let mut rest = k;
+        // a row at a time: a chain over all pairs passes each pair before k, and is a hundred times slower
         for low in self.first..self.last {
             let row = (self.last - low) as usize;
             if rest < row {
@@ -85,20 +100,6 @@ impl Selector {
             rest -= row;
         }
         None
-    }
-}
-
-/// The two are not both on.
-fn exclusion_of(pair: Pair) -> Rule
-    ensures { Holds result (exclusion pair.low pair.high) }
-{
-    let mut needs = AtomSet::empty();
-    needs.insert(pair.high);
-    needs.insert(pair.low);
-    Rule {
-        heads: AtomSet::empty(),
-        needs,
-        bars: AtomSet::empty(),
     }
 }
 

@@ -3,27 +3,24 @@ ghost use Rattle.word_format.specs.Bytes.{OpensBytes};
 ghost use Rattle.word_format.specs.Checks.{Lawful};
 ghost use Rattle.word_format.specs.Held.{Opens, contents};
 ghost use Rattle.word_format.specs.Index.{starts};
-ghost use Rattle.std.specs.Prelude.{◌≡◌, [], ◌∷◌, MatchResult};
+ghost use Rattle.std.specs.Prelude.{◌≡◌, [], ◌∷◌, MatchResult, IfOk};
 
 use super::WordProgram;
 use crate::bytes::words_from_bytes;
 use crate::check::check;
-use crate::word::{Kind, is_kind};
+use crate::word::{END, Kind, is_kind};
 use program::refusal::Refusal;
-use std::alloc::Global;
-
-/// The header of the empty program.
-const NO_ATOMS: u32 = 0xC000_0000;
+use std::alloc::{AllocError, Global};
 
 impl WordProgram {
     /// The empty program: no atoms and no rules.
+    // A `Refusal`, though only memory can be wanting: the project asks for one enum in all public calls.
     pub fn new(heap: Global) -> Result<WordProgram, Refusal>
         ensures { MatchResult result (λ p. contents p ≡ 3221225472 ∷ []) (λ e. e ≡ Refusal.OutOfMemory) }
     {
-        let mut words = Vec::new(heap);
-        words.push(NO_ATOMS)?;
-        let mut begins = Vec::new(heap);
-        begins.push(1)?;
+        // a header that counts no atoms
+        let words = vec![in heap; END]?;
+        let begins = vec![in heap; 1]?;
         Ok(WordProgram { words, begins })
     }
 
@@ -53,19 +50,18 @@ impl WordProgram {
         ensures { OpensBytes bytes.now self.old result self.new }
     {
         let words = words_from_bytes(*self.words.allocator(), bytes)?;
-        self.open(words.as_slice())
+        self.open(&words)
     }
 }
 
 /// The positions just after the end words.
-fn index(heap: Global, words: &[u32]) -> Result<Vec<usize>, Refusal>
-    ensures { MatchResult result (λ v. v.items ≡ starts words.now) (λ e. e ≡ Refusal.OutOfMemory) }
+fn index(heap: Global, words: &[u32]) -> Result<Vec<usize>, AllocError>
+    ensures { IfOk result (λ v. v.items ≡ starts words.now) }
 {
-    let mut begins = Vec::new(heap);
-    for i in 0..words.len() {
-        if is_kind(words[i], Kind::End) {
-            begins.push(i + 1)?;
-        }
-    }
-    Ok(begins)
+    words
+        .iter()
+        .enumerate()
+        .filter(|(_, word)| is_kind(**word, Kind::End))
+        .map(|(i, _)| i + 1)
+        .collect(heap)
 }

@@ -7,13 +7,7 @@ ghost use Rattle.word_format.specs.Showing.{Shows};
 use super::WordProgram;
 use crate::shown::{Form, Shown, form_of};
 use crate::word::number_of;
-
-/// From a rule's first word to just after its end word.
-#[derive(Clone, Copy)]
-pub(super) struct Span {
-    pub(super) from: usize,
-    pub(super) to: usize,
-}
+use std::ops::Range;
 
 impl WordProgram {
     /// The number of atoms.
@@ -31,6 +25,7 @@ impl WordProgram {
     }
 
     /// One more than the number of rules.
+    #[tactic(auto, using(crate::proofs::Begins::begins_count))]
     fn begin_count(&self) -> usize
         ensures { result ≡ length (program_of self.now).rules + 1 }
     {
@@ -44,10 +39,9 @@ impl WordProgram {
         let Some(span) = self.span(k) else {
             return Shown::PastEnd;
         };
-        let from = span.from;
-        let to = span.to;
-        let words = self.words.as_slice();
-        let part = &words[from..to];
+        let from = span.start;
+        let part = &self.words[span];
+        // an arm for each form: here the cases are made
         match form_of(part) {
             Form::Fact => Shown::Fact(part, from),
             Form::Rule => Shown::Rule(part, from),
@@ -56,15 +50,13 @@ impl WordProgram {
     }
 
     /// Where rule k stands, if there is one.
-    pub(super) fn span(&self, k: usize) -> Option<Span>
-        ensures { MatchOption result (length (program_of self.now).rules ≤ k) (λ s. Spans (contents self.now) k s.from s.to) }
+    #[tactic(auto, using(crate::proofs::Begins::begins_count))]
+    pub(super) fn span(&self, k: usize) -> Option<Range<usize>>
+        ensures { MatchOption result (length (program_of self.now).rules ≤ k) (λ s. Spans (contents self.now) k s.start s.end) }
     {
         if k >= self.rule_count() {
             return None;
         }
-        Some(Span {
-            from: self.begins[k],
-            to: self.begins[k + 1],
-        })
+        Some(self.begins[k]..self.begins[k + 1])
     }
 }

@@ -18,7 +18,7 @@ use program::source::RuleSource;
 impl RuleSource for WordProgram {
     ghost meaning = { λ p. program (program_of p) };
 
-    ghost small = { λ p. (p.few_atoms, p.few_rules, p.over) };
+    ghost small = { λ p. p.limited };
 
     fn atom_count(&self) -> usize {
         WordProgram::atom_count(self)
@@ -36,15 +36,13 @@ impl RuleSource for WordProgram {
         let Some(span) = self.span(k) else {
             return false;
         };
-        let from = span.from;
-        let to = span.to;
-        let words = self.words.as_slice();
-        *place = rule_of(&words[from..to]);
+        *place = rule_of(&self.words[span]);
         true
     }
 }
 
 /// The rule that these words spell.
+// A function, since a `From` can ask nothing of the words.
 fn rule_of(words: &[u32]) -> Rule
     requires { (i : ℕ) → is_end (slice_index words.now i) ≡ false → number_of (slice_index words.now i) < 256 }
     ensures { as_rule result ≡ rule_of words.now }

@@ -1,7 +1,8 @@
-use Rattle.std.proofs.Common.{◌≡◌, ◌++◌, string_bytes}
-use Rattle.word_format.specs.Held.{contents}
-use Rattle.account.specs.Lines.{rule_lines}
+use Rattle.std.proofs.Common.{◌≡◌, length, string_bytes}
+use Rattle.account.specs.Inspecting.{program_of}
+use Rattle.account.proofs.Accounts.{Listed}
 use Rattle.account.proofs.report.push_lines.Given as goal
 
-abbrev pub invariant-loop-k : goal.invariant-loop-k
-invariant-loop-k l = string_bytes l.text ≡ string_bytes l.initial.text ++ rule_lines (contents l.program) l.k
+abbrev pub invariant-loop-number : goal.invariant-loop-number
+invariant-loop-number g l =
+    (l.number ≡ length l.yielded) × Listed (program_of (g.S.RuleSource.meaning l.source)) (length l.yielded) (string_bytes l.initial.text) (string_bytes l.text) l.position

@@ -1,12 +1,12 @@
-use Rattle.std.proofs.Common.{◌+◌, ◌*◌, ap, arith}
-use Rattle.atoms.proofs.Words.{lowest_at, no_word_atom, whole}
+use Rattle.std.proofs.Common.{◌+◌, ◌*◌, sym, ap, ◌∙◌}
+use lib.Count.{count_trailing_zeros}
+use Rattle.atoms.proofs.Words.{lowest_at, whole}
 use Rattle.atoms.proofs.AtomSet.lowest.Goals as goal
 
-pub returns-then-self-k-ne0 : goal.returns-then-self-k-ne0
-returns-then-self-k-ne0 c =
-    let s = c.args.self.now in
-    lowest_at s.words (whole s) c.loop-k.k c.if-self-k-ne0.true c.loop-k.invariant (64 * c.loop-k.k + c.low_digit.result)
-    (ap (λ n. 64 * c.loop-k.k + n) c.low_digit.ensures.value)
-
 pub returns : goal.returns
-returns c = let s = c.args.self.now in no_word_atom s.words s.long (λ j l. c.loop-k.invariant j (omega arith))
+returns c =
+    let s = c.args.self.now in
+    let k = c.in_ok-k.k in
+    let word = c.in_ok-k.ensures.1 in
+    lowest_at s.words (whole s) k (λ zero. c.in_ok-k.ensures.2 (sym word ∙ zero)) c.in_ok-k.ensures.3 (64 * k + c.low_digit.result)
+    (ap (λ n. 64 * k + n) (c.low_digit.ensures.value ∙ ap (count_trailing_zeros 64) (sym word)))

@@ -1,13 +1,12 @@
-use Rattle.std.proofs.Common.{map, vec_items, arith}
+use Rattle.std.proofs.Common.{map, rules, vec_items}
 use Rattle.program.specs.Rules.{as_rule}
 use Rattle.program.proofs.Tables.{gathered_limits}
 use Rattle.program.proofs.load.load.Goals as goal
 
 pub invariant_of-result : goal.invariant_of-result
 invariant_of-result g c =
-    let m = g.S.RuleSource.meaning c.args.source.now in
-    let rs = map as_rule (vec_items c.in_ok-rules.rules) in
-    let limits =
-    gathered_limits m (g.S.RuleSource.small c.args.source.now) (omega arith) c.atom_count.result rs c.atom_count.ensures c.in_ok-rules.ensures
-    in
-    record { few_atoms = limits.0; few_rules = limits.1; over = limits.2 }
+    let source = c.args.source.now in
+    let held = map as_rule (vec_items c.in_ok-gather.field-0) in
+    record {
+      limited = gathered_limits (g.S.RuleSource.meaning source) (g.S.RuleSource.small source) (search rules) c.atom_count.result held c.atom_count.ensures c.in_ok-gather.ensures;
+    }

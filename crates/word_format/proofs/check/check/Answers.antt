@@ -6,28 +6,26 @@ use Rattle.word_format.proofs.check.check.Goals as goal
 
 pub returns-in_err-take : goal.returns-in_err-take
 returns-in_err-take c =
-    let p = err_from_is_err_and c.from_residual.result c.from_residual.ensures.1 in
+    let p = err_from_is_err_and c.from_residual-in_err-take.result c.from_residual-in_err-take.ensures.1 in
     let ws = c.args.words.now in
     let e = c.in_err-take.field-0.0 in
-    let v =
-    walked_refused ws c.loop-i.invariant.0 c.loop-i.check c.take.new.self c.loop-i.i e c.loop-i-test.true c.loop-i.invariant.1
-    c.in_err-take.ensures.first c.in_err-take.ensures.later
-    in
+    let h = c.loop-i.invariant in
+    let v = walked_refused ws h.short c.loop-i.check c.take.new.self c.loop-i.i e c.loop-i-test.true h.walked c.in_err-take.ensures in
     rw (p.1, p.2) (record { verdict = v; only = only_refusal ws (Err e) v; law = reads ws (Err e) v })
 
 pub loop-i-preserved : goal.loop-i-preserved
-loop-i-preserved c = (
-  c.loop-i.invariant.0,
-  walked_more c.args.words.now c.loop-i.invariant.0 c.loop-i.check c.take.new.self c.loop-i.i c.loop-i-test.true
-      c.loop-i.invariant.1 c.in_ok-take.ensures.first c.in_ok-take.ensures.later,
-)
+loop-i-preserved c =
+    let h = c.loop-i.invariant in
+    record {
+      some = h.some;
+      short = h.short;
+      walked = walked_more c.args.words.now h.short c.loop-i.check c.take.new.self c.loop-i.i c.loop-i-test.true h.walked c.in_ok-take.ensures;
+    }
 
 pub returns : goal.returns
 returns c =
     let ws = c.args.words.now in
     let r = c.finish.result in
-    let v =
-    walked_all ws c.loop-i.i c.loop-i.check r (omega arith) c.loop-i.invariant.0 c.loop-i.invariant.1 (λ i _. (c.type_inv.words i).fits)
-    c.finish.ensures.none c.finish.ensures.some
-    in
+    let h = c.loop-i.invariant in
+    let v = walked_all ws c.loop-i.i c.loop-i.check r (omega arith) h.short h.walked (λ i _. (c.type_inv.words i).fits) c.finish.ensures in
     record { verdict = v; only = only_refusal ws r v; law = reads ws r v }
