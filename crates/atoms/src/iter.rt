@@ -1,5 +1,5 @@
 // The atoms of a set, one by one.
-ghost use Rattle.std.specs.Prelude.{◌≡◌, ℕ, List};
+ghost use Rattle.std.specs.Prelude.{◌≡◌, ℕ, List, Some, length};
 ghost use Rattle.std.specs.Iterator.{YieldsFirst, item_count};
 ghost use Rattle.atoms.specs.Member.{members};
 
@@ -32,7 +32,9 @@ impl Iterator for Iter {
         Some(atom)
     }
 
-    fn size_hint(&self) -> (usize, Option<usize>) {
+    fn size_hint(&self) -> (usize, Option<usize>)
+        ensures exact { result ≡ (length self.now, Some (length self.now)) }
+    {
         let n = self.len();
         (n, Some(n))
     }
