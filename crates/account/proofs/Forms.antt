@@ -1,5 +1,5 @@
 -- The form of a rule by its parts, and by its words.
-use Rattle.std.proofs.Common.{◌≡◌, ℕ, ◌≤◌, Bool, true, false, List, [], ◌∷◌, sym, refl, ap, ◌∙◌}
+use Rattle.std.proofs.Common.{◌≡◌, ℕ, ◌≤◌, Bool, true, false, not, List, [], ◌∷◌, sym, refl, ap, ◌∙◌}
 use Rattle.std.proofs.lemmas.Bool.{false≢true, eq-eqb}
 use Rattle.atoms.specs.Sets.{Atoms}
 use Rattle.program.specs.Programs.{Rule, Over}
@@ -51,6 +51,11 @@ module _ (n : ℕ) (r : Rule) (small : n ≤ 256) (over : Over n r) where
 
   bars : holds Bar (write_rule n r) ≡ r.bars
   bars = ap (λ (x : Rule). x.bars) back
+
+  -- whether a need stands in the words
+  pub need_told : (empty : Bool) → (empty ≡ true → (i : ℕ) → r.needs i ≡ false) → (empty ≡ false → ((i : ℕ) → r.needs i ≡ false) → ⊥) → not empty ≡ has_kind Need (write_rule n r)
+  need_told true h f = sym (none Need r.needs needs (h refl))
+  need_told false h f = sym (some Need r.needs needs (f refl))
 
   pub no_heads : ((i : ℕ) → r.heads i ≡ false) → form.Constraint ≡ form_of (write_rule n r)
   no_heads h = rw (none Head r.heads heads h) refl

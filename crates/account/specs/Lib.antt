@@ -1,3 +1,4 @@
 pub mod Lines
 pub mod Tallies
 pub mod Inspecting
+pub mod Listed

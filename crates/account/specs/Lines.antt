@@ -1,5 +1,5 @@
 -- The text of an account, byte by byte.
-use Rattle.std.specs.Prelude.{ℕ, zero, suc, ◌+◌, if◌then◌else◌, List, [], ◌∷◌, ◌++◌, length, drop, codes, decimal, slice_index}
+use Rattle.std.specs.Prelude.{ℕ, Bool, zero, suc, ◌+◌, if◌then◌else◌, List, [], ◌∷◌, ◌++◌, length, drop, codes, decimal, slice_index}
 use Rattle.word_format.specs.declared.word.Kind.{Kind}
 use Rattle.word_format.specs.declared.word.Kind.TheVariants.{Head, Need, Bar}
 use Rattle.word_format.specs.declared.shown.Form.{Form}
@@ -21,17 +21,23 @@ abbrev pub atoms_text : List ℕ → List ℕ → List ℕ → List ℕ
 atoms_text first later [] = []
 atoms_text first later (i ∷ is) = first ++ (decimal i ++ atoms_text later later is)
 
--- as ` 0 | 1 <- 2, not 3`
-abbrev pub rule_text : List ℕ → List ℕ
-rule_text ws =
-    atoms_text (codes " ") (codes " | ") (numbers Head ws)
+-- as ` 0 | 1 <- 2, not 3`, from the heads, the needs and the bars, and whether there is a need
+abbrev pub parts_text : List ℕ → List ℕ → List ℕ → Bool → List ℕ
+parts_text hs ns bs some_need =
+    atoms_text (codes " ") (codes " | ") hs
     ++ (codes " <-"
-    ++ (atoms_text (codes " ") (codes ", ") (numbers Need ws)
-    ++ atoms_text (if has_kind Need ws then codes ", not " else codes " not ") (codes ", not ") (numbers Bar ws)))
+    ++ (atoms_text (codes " ") (codes ", ") ns
+    ++ atoms_text (if some_need then codes ", not " else codes " not ") (codes ", not ") bs))
 
--- as `rule 4 at 17: 0 | 1 <- 2, not 3`, with a newline
+abbrev pub rule_text : List ℕ → List ℕ
+rule_text ws = parts_text (numbers Head ws) (numbers Need ws) (numbers Bar ws) (has_kind Need ws)
+
+-- as `rule 4 at 17: 0 | 1 <- 2, not 3`, with a newline, from the text of the rule
+abbrev pub line_text : ℕ → ℕ → List ℕ → List ℕ
+line_text k position t = codes "rule " ++ (decimal k ++ (codes " at " ++ (decimal position ++ (codes ":" ++ (t ++ codes "\n")))))
+
 abbrev pub rule_line : ℕ → ℕ → List ℕ → List ℕ
-rule_line k position ws = codes "rule " ++ (decimal k ++ (codes " at " ++ (decimal position ++ (codes ":" ++ (rule_text ws ++ codes "\n")))))
+rule_line k position ws = line_text k position (rule_text ws)
 
 -- the line of what is shown as rule k
 abbrev pub shown_line : ℕ → Shown → List ℕ

@@ -25,6 +25,9 @@ pub fn inspect_pile(heap: Global, bytes: &[u8], steps: &[Step]) -> Result<String
 {
     let mut program = WordProgram::new(heap)?;
     program.open_bytes(bytes)?;
+    if steps.is_empty() {
+        return account(heap, &program);
+    }
     let pile = assemble(heap, &program, steps)?;
     account(heap, &pile)
 }

@@ -1,5 +1,5 @@
 // The account of a source of rules.
-ghost use Rattle.std.specs.Prelude.{◌≡◌, ◌+◌, ◌≤◌, ◌++◌, ℕ, drop, if◌then◌else◌, string_bytes, MatchResult, Some};
+ghost use Rattle.std.specs.Prelude.{◌≡◌, ◌+◌, ◌≤◌, ◌++◌, ℕ, drop, if◌then◌else◌, length, string_bytes, MatchResult, IfOk, OnOk, Some};
 ghost use Rattle.account.specs.Inspecting.{Accounted, RefusedAccount, written_words};
 ghost use Rattle.account.specs.Lines.{lines_of, summary};
 ghost use Rattle.account.specs.Tallies.{Counted};
@@ -10,14 +10,13 @@ ghost use Rattle.word_format.specs.Showing.{form_of, same_form};
 ghost use Rattle.word_format.specs.Writing.{write_rule};
 ghost use Rattle.word_format.specs.declared.shown.Form.TheVariants as forms;
 
-use crate::text::RuleLine;
+use crate::text::{RuleLine, RuleText};
 use program::refusal::Refusal;
 use program::rule::Rule;
 use program::source::RuleSource;
-use std::alloc::Global;
+use std::alloc::{AllocError, Global};
 use std::fmt;
 use word_format::shown::Form;
-use word_format::write::written_rule;
 
 /// How many rules there are of each form.
 #[derive(Clone, Copy, Debug, Default, PartialEq, Eq)]
@@ -106,32 +105,42 @@ pub fn account<S: RuleSource>(heap: Global, source: &S) -> Result<String, Refusa
     if source.is_overfull() {
         return Err(Refusal::Overfull);
     }
+    let mut text = String::new(heap);
+    let counts = push_lines(&mut text, source)?;
     let summary = Summary {
         atoms: source.atom_count(),
         rules: source.rule_count(),
-        counts: count_forms(source),
+        counts,
     };
-    let mut text = summary.to_string(heap)?;
-    push_lines(heap, &mut text, source)?;
+    text.insert_str(0, &summary.to_string(heap)?)?;
     Ok(text)
 }
 
-/// The lines of all rules.
-// A `Refusal`, though only memory can be wanting: it passes on that of `written_rule`.
-fn push_lines<S: RuleSource>(heap: Global, text: &mut String, source: &S) -> Result<(), Refusal>
-    ensures { MatchResult result (λ _. string_bytes text.new ≡ string_bytes text.old ++ lines_of (written_words (S.RuleSource.meaning source.now))) (λ e. e ≡ Refusal.OutOfMemory) }
+/// The lines of all rules, and how many rules there are of each form: each rule is asked for once.
+fn push_lines<S: RuleSource>(text: &mut String, source: &S) -> Result<Counts, AllocError>
+    ensures lines { OnOk result (string_bytes text.new ≡ string_bytes text.old ++ lines_of (written_words (S.RuleSource.meaning source.now))) }
+    ensures counts { IfOk result (Counted (segments (drop 1 (written_words (S.RuleSource.meaning source.now))))) }
 {
-    let atoms = source.atom_count();
     let mut position = 1;
+    let mut tally = Counts::default();
     for (number, rule) in source.iter().enumerate() {
-        let words = written_rule(heap, atoms, &rule)?;
         let line = RuleLine {
             number,
             position,
-            words: &words,
+            rule: RuleText::of_sets(&rule),
         };
         write!(text, "{line}")?;
-        position += words.len();
+        position += word_count(&rule);
+        tally = tally.with(form_of(&rule));
     }
-    Ok(())
+    Ok(tally)
+}
+
+/// How many words the writing of a rule has.
+#[tactic(auto, using(crate::proofs::RuleParts::length_written))]
+fn word_count(rule: &Rule) -> usize
+    ensures words { (n : ℕ) → n ≤ 256 → Over n (as_rule rule.now) → result ≡ length (write_rule n (as_rule rule.now)) }
+    ensures bound { result ≤ 769 }
+{
+    rule.heads.count() + rule.needs.count() + rule.bars.count() + 1
 }

@@ -6,3 +6,4 @@ pub mod Ascents
 pub mod Listing
 pub mod Ordered
 pub mod MembersListed
+pub mod WordsListed

@@ -16,13 +16,13 @@ listed_same X Y zero e = refl
 listed_same X Y (suc n) e = ap₂ (λ xs b. xs ++ cond b (n ∷ []) []) (listed_same X Y n (λ k l. e k (omega arith))) (e n (omega arith))
 
 -- where there is no member nothing is listed
-listed_none : (X : Atoms) (n : ℕ) → ((k : ℕ) → k < n → X k ≡ false) → members_below X n ≡ []
+pub listed_none : (X : Atoms) (n : ℕ) → ((k : ℕ) → k < n → X k ≡ false) → members_below X n ≡ []
 unfolding members_below
 listed_none X zero e = refl
 listed_none X (suc n) e = ap₂ (λ xs b. xs ++ cond b (n ∷ []) []) (listed_none X n (λ k l. e k (omega arith))) (e n (omega arith))
 
 -- the lowest number stands first, before those of the set without it
-listed_lowest : (X Y : Atoms) (i n : ℕ) → i < n → Lowest X i → ((j : ℕ) → Y j ≡ (not (eqb j i) && X j)) → members_below X n ≡ i ∷ members_below Y n
+pub listed_lowest : (X Y : Atoms) (i n : ℕ) → i < n → Lowest X i → ((j : ℕ) → Y j ≡ (not (eqb j i) && X j)) → members_below X n ≡ i ∷ members_below Y n
 unfolding members_below
 listed_lowest X Y i zero l low e = absurd (omega arith)
 listed_lowest X Y i (suc n) l low e = go (cases_eq n i) (λ h. listed_lowest X Y i n h low e)
@@ -73,7 +73,7 @@ members_cut s t n e = ⊎_elim all some (cases_lt 256 n)
     some l = listed_above (has t) n 256 within l ∙ listed_same (has t) (has s) n (λ k h. let below : k < 256 = omega arith in e k ∙ ap₂ (λ a b. has s k && (a && b)) (lt-ltb k n h) (lt-ltb k 256 below) ∙ and-true (has s k))
 
 -- as many are listed as there are
-listed_length : (X : Atoms) (n : ℕ) → length (members_below X n) ≡ tally X n
+pub listed_length : (X : Atoms) (n : ℕ) → length (members_below X n) ≡ tally X n
 unfolding members_below tally
 listed_length X zero = refl
 listed_length X (suc n) = length-append (members_below X n) (cond (X n) (n ∷ []) []) ∙ ap₂ ◌+◌ (listed_length X n) (one (X n))

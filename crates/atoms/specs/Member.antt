@@ -1,5 +1,5 @@
 -- Which atoms an `AtomSet` holds.
-use Rattle.std.specs.Prelude.{◌≡◌, ℕ, zero, suc, ◌+◌, ◌/◌, ◌%◌, ◌^◌, ◌<◌, Bool, true, false, List, [], ◌∷◌, ◌++◌, if◌then◌else◌, not, ◌&&◌, ◌||◌, ◌==◌, slice_index}
+use Rattle.std.specs.Prelude.{◌≡◌, ℕ, zero, suc, ◌+◌, ◌/◌, ◌%◌, ◌^◌, ◌<◌, Bool, true, false, List, [], ◌∷◌, ◌++◌, if◌then◌else◌, not, ◌&&◌, ◌||◌, ◌==◌, map, slice_index}
 use Rattle.std.specs.declared.cmp.Ordering.{Ordering}
 use Rattle.std.specs.declared.cmp.Ordering.TheVariants.{Equal}
 use Rattle.std.specs.Ordering.{bool_cmp, ordering_then}
@@ -31,6 +31,10 @@ members_below X (suc n) = members_below X n ++ (if X n then n ∷ [] else [])
 -- the atoms of a set, rising
 abbrev pub members : AtomSet → List ℕ
 members s = members_below (has s) 256
+
+-- what is left of a set in which a word is begun: the atom n + k for each digit k of the word w that is set, and then those of s
+unfoldable pub left : ℕ → ℕ → AtomSet → List ℕ
+left n w s = map (λ k. n + k) (members_below (bit w) 64) ++ members s
 
 -- i is in X, and no smaller number is
 abbrev pub Lowest : Atoms → ℕ → Type 0

@@ -9,7 +9,8 @@ ghost use Rattle.atoms.specs.Order.{set_cmp_total};
 
 use super::AtomSet;
 use super::word_ops::{
-    count_digits, first_word, low_digit, low_digits, with_digit, without_digit, zip_words,
+    count_digits, first_word, low_digit, low_digits, same_words, with_digit, without_digit,
+    zip_words,
 };
 
 impl AtomSet {
@@ -136,7 +137,7 @@ impl PartialEq for AtomSet {
         ensures same { IsTrue result ↔ (self.now ≡ other.now) }
         ensures members { IsTrue result ↔ ((i : ℕ) → has self.now i ≡ has other.now i) }
     {
-        self.words == other.words
+        same_words(&self.words, &other.words)
     }
 }
 

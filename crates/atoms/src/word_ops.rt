@@ -1,6 +1,7 @@
 // What the operations on sets do with their words. A set has four words of 64 digits, and the atom i
 // is the digit i % 64 of the word i / 64.
-ghost use Rattle.std.specs.Prelude.{◌≡◌, ◌≢◌, ℕ, ◌-◌, ◌^◌, ◌<◌, ◌≤◌, min, MatchOption, bit_and, bit_or, count_ones, slice_index, sum_by};
+ghost use Rattle.std.specs.Prelude.{◌≡◌, ◌≢◌, ℕ, ◌-◌, ◌^◌, ◌<◌, ◌≤◌, min, nat_eq, MatchOption, bit_and, bit_or, count_ones, slice_index, sum_by};
+ghost use Rattle.std.specs.Cmp.Lexicographic.{pointwise};
 ghost use Rattle.std.specs.Int.Count.{count_trailing_zeros};
 
 use std::array;
@@ -22,6 +23,13 @@ pub(super) fn zip_words<F: Fn(u64, u64) -> u64>(a: &[u64; 4], b: &[u64; 4], f: F
 {
     // written out: `array::from_fn` takes a quarter longer here
     [f(a[0], b[0]), f(a[1], b[1]), f(a[2], b[2]), f(a[3], b[3])]
+}
+
+// Written out, a word at a time: `==` of arrays reads two words at once, which waits where one was just written.
+pub(super) fn same_words(a: &[u64; 4], b: &[u64; 4]) -> bool
+    ensures { result ≡ pointwise nat_eq a.now b.now }
+{
+    a[0] == b[0] && a[1] == b[1] && a[2] == b[2] && a[3] == b[3]
 }
 
 pub(super) fn with_digit(w: u64, k: u8) -> u64
@@ -67,4 +75,12 @@ pub(super) fn low_digit(w: u64) -> u8
     ensures bound { (w ≢ 0) → result < 64 }
 {
     w.trailing_zeros() as u8
+}
+
+// The word without its lowest digit that is set.
+pub(super) fn without_lowest(w: u64) -> u64
+    requires { w ≢ 0 }
+    ensures { result ≡ bit_and w (w - 1) }
+{
+    w & (w - 1)
 }

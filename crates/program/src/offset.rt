@@ -1,8 +1,7 @@
 // A source with every atom moved up.
-ghost use Rattle.std.specs.Prelude.{◌≡◌, ◌+◌, ◌≤◌, SomeIff};
+ghost use Rattle.std.specs.Prelude.{◌+◌, ◌≤◌, SomeIff};
 ghost use Rattle.program.specs.Combined.{offset_by};
 ghost use Rattle.program.specs.Limits.{offset_small};
-ghost use Rattle.program.specs.Meanings.{atom_count};
 
 use crate::limits::{MAX_ATOMS, OVERFULL};
 use crate::rule::Rule;
@@ -24,18 +23,18 @@ impl<S: RuleSource> RuleSource for Offset<S> {
         if self.source.is_overfull() {
             return 0;
         }
-        self.moved_count().unwrap_or(0)
+        moved_count(self.source.atom_count(), self.by).unwrap_or(0)
     }
 
     fn rule_count(&self) -> usize {
-        match self.moved_count() {
+        match moved_count(self.source.atom_count(), self.by) {
             Some(_) => self.source.rule_count(),
             None => OVERFULL,
         }
     }
 
     fn rule(&self, k: usize, place: &mut Rule) -> bool {
-        if self.moved_count().is_none() {
+        if moved_count(self.source.atom_count(), self.by).is_none() {
             return false;
         }
         let mut found = *place;
@@ -47,12 +46,10 @@ impl<S: RuleSource> RuleSource for Offset<S> {
     }
 }
 
-impl<S: RuleSource> Offset<S> {
-    /// The number of atoms, if a program may have as many.
-    fn moved_count(&self) -> Option<usize>
-        ensures { let n = atom_count (S.RuleSource.meaning self.now.source) + self.now.by in SomeIff result (n ≤ 256) n }
-    {
-        let count = self.source.atom_count().checked_add(self.by)?;
-        (count <= MAX_ATOMS).then_some(count)
-    }
+/// So many atoms and so many more, if a program may have as many.
+fn moved_count(atoms: usize, by: usize) -> Option<usize>
+    ensures { SomeIff result (atoms + by ≤ 256) (atoms + by) }
+{
+    let count = atoms.checked_add(by)?;
+    (count <= MAX_ATOMS).then_some(count)
 }

@@ -25,9 +25,7 @@ impl<S: RuleSource> Iterator for Rules<'_, S> {
 
     fn next(&mut self) -> Option<Rule> {
         let mut rule = Rule::empty();
-        if !self.source.rule(self.next, &mut rule) {
-            return None;
-        }
+        let rule = self.source.rule(self.next, &mut rule).then_some(rule)?;
         self.next += 1;
         Some(rule)
     }

@@ -12,3 +12,4 @@ pub mod RuleFetched
 pub mod PartsWritten
 pub mod ProgramWritten
 pub mod Pushes
+pub mod Parts

@@ -1,6 +1,7 @@
 // A rule as it is shown.
 ghost use Rattle.word_format.specs.Showing.{form_of, has_kind, shown_form};
 ghost use Rattle.std.specs.Prelude.{◌≡◌};
+ghost use Rattle.std.specs.List.{list_any};
 
 use crate::word::{Kind, is_kind};
 
@@ -42,7 +43,24 @@ impl Shown<'_> {
 pub fn has_kind(words: &[u32], kind: Kind) -> bool
     ensures { result ≡ has_kind kind words.now }
 {
-    words.iter().any(|word| is_kind(*word, kind))
+    let (parts, rest) = words.as_chunks::<16>();
+    some_part(parts, kind) || part_has(rest, kind)
+}
+
+/// Whether some word of some part is of this kind.
+fn some_part(parts: &[[u32; 16]], kind: Kind) -> bool
+    ensures { result ≡ list_any (has_kind kind) parts.now }
+{
+    parts.iter().any(|part| part_has(part, kind))
+}
+
+/// The same of a few words, all of them read: so they are compared side by side.
+fn part_has(words: &[u32], kind: Kind) -> bool
+    ensures { result ≡ has_kind kind words.now }
+{
+    words
+        .iter()
+        .fold(false, |found, word| found | is_kind(*word, kind))
 }
 
 /// The form of a rule by its words.
