@@ -1,15 +1,14 @@
 // Any source, gathered into a table.
 ghost use Rattle.program.specs.Meanings.{overfull, rules_of};
-ghost use Rattle.program.specs.Iterated.{rules_left};
+ghost use Rattle.program.specs.Programs.{rule_at};
 ghost use Rattle.program.specs.Rules.{as_rule};
 ghost use Rattle.program.specs.Tables.{Loads};
-ghost use Rattle.std.specs.Prelude.{◌≡◌, ◌↔◌, length, map, take, IfOk, IsErrOf};
-ghost use Rattle.std.specs.Iterator.{YieldsFirstBy, at_most};
+ghost use Rattle.std.specs.Prelude.{◌≡◌, ◌↔◌, ◌<◌, ◌≤◌, drop, length, map, IfOk, IsErrOf, MatchOption};
+ghost use Rattle.std.specs.Iterator.{YieldsFirstBy, item_count};
 
 use crate::limits::MAX_RULES;
 use crate::refusal::Refusal;
 use crate::rule::Rule;
-use crate::rules::Rules;
 use crate::source::RuleSource;
 use crate::table::RuleTable;
 use std::alloc::{AllocError, Global};
@@ -36,32 +35,45 @@ fn gather<S: RuleSource>(heap: Global, source: &S, count: usize) -> Result<Vec<R
 {
     let mut rules = Vec::with_capacity(heap, count)?;
     rules.extend(Counted {
-        rules: source.iter(),
-        count,
+        source,
+        next: 0,
+        end: count,
     })?;
     Ok(rules)
 }
 
-/// The next rules of a source, so many of them.
-// Not by `take`: its `size_hint` would ask the source again.
+/// The rules of a source from `next` on, where it was asked before how many it has.
+// In place of `iter`: that would ask it again, and for a rule past the end.
 #[derive(Drop)]
-struct Counted<'a, S> {
-    rules: Rules<'a, S>,
-    count: usize,
+struct Counted<'a, S: RuleSource> {
+    source: &'a S,
+    next: usize,
+    end: usize,
+    ghost counted: { end ≡ length (rules_of (S.RuleSource.meaning source.now)) },
 }
 
 impl<S: RuleSource> Iterator for Counted<'_, S> {
     type Item = Rule;
 
-    ghost next_gives = { YieldsFirstBy as_rule (λ s. take s.count (rules_left S.RuleSource.meaning s.rules)) };
+    ghost next_gives = { YieldsFirstBy as_rule (λ s. drop s.next (rules_of (S.RuleSource.meaning s.source.now))) };
 
-    ghost remaining = { λ s. at_most s.count };
+    ghost remaining = { item_count (λ s. drop s.next (rules_of (S.RuleSource.meaning s.source.now))) };
 
     fn next(&mut self) -> Option<Rule> {
-        if self.count == 0 {
+        if self.next >= self.end {
             return None;
         }
-        self.count -= 1;
-        self.rules.next()
+        let k = self.next;
+        self.next += 1;
+        rule_at(self.source, k)
     }
+}
+
+/// Rule k, if there is one.
+fn rule_at<S: RuleSource>(source: &S, k: usize) -> Option<Rule>
+    ensures { let rules = rules_of (S.RuleSource.meaning source.now) in
+        MatchOption result (length rules ≤ k) (λ r. (k < length rules) × (as_rule r ≡ rule_at rules k)) }
+{
+    let mut rule = Rule::empty();
+    source.rule(k, &mut rule).then_some(rule)
 }

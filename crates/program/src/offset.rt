@@ -20,10 +20,11 @@ impl<S: RuleSource> RuleSource for Offset<S> {
     ghost small = { λ s. offset_small s.by _ (S.RuleSource.small s.source) };
 
     fn atom_count(&self) -> usize {
+        let count = moved_count(self.source.atom_count(), self.by);
         if self.source.is_overfull() {
             return 0;
         }
-        moved_count(self.source.atom_count(), self.by).unwrap_or(0)
+        count.unwrap_or(0)
     }
 
     fn rule_count(&self) -> usize {

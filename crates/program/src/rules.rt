@@ -25,7 +25,9 @@ impl<S: RuleSource> Iterator for Rules<'_, S> {
 
     fn next(&mut self) -> Option<Rule> {
         let mut rule = Rule::empty();
-        let rule = self.source.rule(self.next, &mut rule).then_some(rule)?;
+        if !self.source.rule(self.next, &mut rule) {
+            return None;
+        }
         self.next += 1;
         Some(rule)
     }
